@@ -1,0 +1,61 @@
+-- Functions on lists that the definitions of every crate are made of.
+use Prim.Native.Nat.{ℕ, suc}
+use mathlib.Core.Bool.{Bool, true, false, cond}
+use mathlib.Core.List.{List, [], _∷_, _++_}
+use mathlib.Core.Path.{_≡_}
+use mathlib.Core.Logic.{_⊎_}
+use lib.Dec.{ltb}
+use lib.ListN.{length, take, drop}
+
+module _ {A : Type 0} where
+  -- a fold from the left
+  abbrev pub foldl : {B : Type 0} → (B → A → B) → B → List A → B
+  foldl f b [] = b
+  foldl f b (x ∷ xs) = foldl f (f b x) xs
+
+  -- the elements that pass a test, in order
+  abbrev pub select : (A → Bool) → List A → List A
+  select p [] = []
+  select p (x ∷ xs) = cond (p x) (x ∷ select p xs) (select p xs)
+
+  -- the indexes of the elements that pass a test, in order; the first element has index n
+  abbrev pub indexesFrom : (A → Bool) → ℕ → List A → List ℕ
+  indexesFrom p n [] = []
+  indexesFrom p n (x ∷ xs) = cond (p x) (n ∷ indexesFrom p (suc n) xs) (indexesFrom p (suc n) xs)
+
+  -- x before the first element with a greater key
+  abbrev pub insertBy : (A → ℕ) → A → List A → List A
+  insertBy k x [] = x ∷ []
+  insertBy k x (y ∷ ys) = cond (ltb (k x) (k y)) (x ∷ y ∷ ys) (y ∷ insertBy k x ys)
+
+  -- a list ordered by a key, equal keys in their order: each element in turn is inserted
+  abbrev pub sortBy : (A → ℕ) → List A → List A
+  sortBy k l = foldl (λ acc x. insertBy k x acc) [] l
+
+  -- how many elements stand before the first with a key greater than d
+  abbrev pub placeBy : (A → ℕ) → ℕ → List A → ℕ
+  placeBy k d [] = 0
+  placeBy k d (y ∷ ys) = cond (ltb d (k y)) 0 (suc (placeBy k d ys))
+
+  -- a list written over the front of another
+  abbrev pub over : List A → List A → List A
+  over base l = l ++ drop (length l) base
+
+  -- a fact of every element
+  abbrev pub All : (A → Type 0) → List A → Type 0
+  All P [] = Unit {0}
+  All P (x ∷ xs) = P x × All P xs
+
+  -- x put into a list at place p
+  abbrev pub insertAt : ℕ → A → List A → List A
+  insertAt p x l = take p l ++ (x ∷ drop p l)
+
+  -- x is one of the elements
+  abbrev pub In : A → List A → Type 0
+  In x [] = ⊥
+  In x (y ∷ ys) = (x ≡ y) ⊎ In x ys
+
+  -- each element stands in a relation to every later one
+  abbrev pub Sorted : (A → A → Type 0) → List A → Type 0
+  Sorted R [] = Unit {0}
+  Sorted R (x ∷ xs) = All (R x) xs × Sorted R xs

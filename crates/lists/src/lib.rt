@@ -1,0 +1,1 @@
+// Lists: this library has no code, only the definitions of specs/ and their laws in proofs/.

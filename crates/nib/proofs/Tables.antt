@@ -1,0 +1,22 @@
+-- Laws of a table as a list of entries. Assumes nothing.
+use Prim.Native.Nat.{ℕ, _<_, _≤_, _+_}
+use mathlib.Core.Path.{_≡_, sym, _∙_}
+use mathlib.Core.List.{List, [], _∷_, _++_}
+use native.Mathlib.Omega.{arith}
+use borrow.Author.Tests.{lt-ltb}
+use lib.ListN.{length, take, length-append, length-take, replicate}
+use lib.Seq.{take-at}
+use Rattle.lists.specs.Lists.{over}
+use Rattle.lists.proofs.Lists.{over-snoc, over-take}
+use Rattle.nib.specs.Neighbors.{entriesOf, tableOf, pushed, blank}
+use Rattle.nib.specs.declared.NwkNeighbor.{NwkNeighbor}
+use Rattle.nib.specs.declared.NeighborTable.{NeighborTable}
+
+-- a table made of a list has that list's entries
+pub entries-of : (l : List NwkNeighbor) → entriesOf (tableOf l) ≡ l
+entries-of l = over-take (replicate 16 blank) l
+
+-- one entry more in a table made of a list
+pub push-of : (l : List NwkNeighbor) (x : NwkNeighbor) → length l < 16 → pushed (tableOf l) x ≡ tableOf (l ++ (x ∷ []))
+unfolding pushed
+push-of l x h = rw (lt-ltb (length l) 16 h) (λ i. record { entries = over-snoc (replicate 16 blank) l x h i; count = sym (length-append l (x ∷ [])) i })
