@@ -99,6 +99,21 @@ impl CapabilityInformation {
     }
 }
 
+// The attributes that decisions read or write. An end device timeout of 255 is not negotiated.
+pub struct Nib {
+    pub network_address: ShortAddress,
+    pub ieee_address: IeeeAddress,
+    pub extended_panid: ExtendedPanId,
+    pub panid: PanId,
+    pub update_id: u8,
+    pub capability_information: CapabilityInformation,
+    pub stack_profile: u8,
+    pub parent_information: u8,
+    pub end_device_timeout: u8,
+    pub end_device_timeout_default: u8,
+    pub leave_request_allowed: bool,
+}
+
 pub enum DeviceType {
     Coordinator,
     Router,

@@ -1,0 +1,94 @@
+// Requests, confirms and indications of the NLME, and the slots that hold an indication until it is taken.
+use nib::CapabilityInformation;
+use nib::ExtendedPanId;
+use nib::OptionalIeee;
+use nib::ShortAddress;
+
+// The kinds of a join request, in the order of their numbers 0 to 3 (Zigbee Table 3-21).
+pub enum RejoinNetwork {
+    Association,
+    Orphan,
+    NwkRejoin,
+    ChannelChange,
+}
+
+// A scan of the channels from `first` up to, and without, `past`.
+pub struct ScanRange {
+    pub first: u8,
+    pub past: u8,
+    pub duration: u8,
+}
+
+pub struct NlmeJoinRequest {
+    pub extended_pan_id: ExtendedPanId,
+    pub rejoin_network: RejoinNetwork,
+    pub capability_information: CapabilityInformation,
+    pub security_enabled: bool,
+    pub scan: ScanRange,
+}
+
+pub enum NlmeJoinStatus {
+    Success,
+    InvalidRequest,
+    NotPermitted,
+    NoNetworks,
+    PanAtCapacity,
+    PanAccessDenied,
+    MacError,
+}
+
+pub struct NlmeJoinConfirm {
+    pub status: NlmeJoinStatus,
+    pub network_address: ShortAddress,
+    pub extended_pan_id: ExtendedPanId,
+    pub channel: u8,
+}
+
+// No device address: this device was removed.
+pub struct NlmeLeaveIndication {
+    pub device_address: OptionalIeee,
+    pub rejoin: bool,
+}
+
+// The only status is ParentLinkFailure; the address is the parent's, 0xffff where there is none.
+pub struct NlmeNwkStatusIndication {
+    pub network_address: ShortAddress,
+}
+
+pub struct RejoinResponse {
+    pub network_address: ShortAddress,
+    pub status: u8,
+}
+
+pub struct EndDeviceTimeoutResponse {
+    pub status: u8,
+    pub parent_information: u8,
+}
+
+// The slots: each keeps the newest value until it is taken.
+pub enum RejoinResponseSlot {
+    NoRejoinResponse,
+    HasRejoinResponse(RejoinResponse),
+}
+
+pub enum TimeoutResponseSlot {
+    NoTimeoutResponse,
+    HasTimeoutResponse(EndDeviceTimeoutResponse),
+}
+
+pub enum LeaveIndicationSlot {
+    NoLeaveIndication,
+    HasLeaveIndication(NlmeLeaveIndication),
+}
+
+pub enum StatusIndicationSlot {
+    NoStatusIndication,
+    HasStatusIndication(NlmeNwkStatusIndication),
+}
+
+pub struct Signals {
+    pub rejoin_response: RejoinResponseSlot,
+    pub timeout_response: TimeoutResponseSlot,
+    pub leave_indication: LeaveIndicationSlot,
+    pub nwk_status_indication: StatusIndicationSlot,
+}
