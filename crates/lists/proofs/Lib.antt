@@ -1,1 +1,5 @@
 pub mod Lists
+pub mod Conditions
+pub mod First
+pub mod Maps
+pub mod Pairs

@@ -1,5 +1,5 @@
 -- Functions on lists that the definitions of every crate are made of.
-use Prim.Native.Nat.{ℕ, suc}
+use Prim.Native.Nat.{ℕ, zero, suc}
 use mathlib.Core.Bool.{Bool, true, false, cond}
 use mathlib.Core.List.{List, [], _∷_, _++_}
 use mathlib.Core.Path.{_≡_}
@@ -59,3 +59,39 @@ module _ {A : Type 0} where
   abbrev pub Sorted : (A → A → Type 0) → List A → Type 0
   Sorted R [] = Unit {0}
   Sorted R (x ∷ xs) = All (R x) xs × Sorted R xs
+
+  -- how many elements stand before the first that passes a test: its index, or the length where none passes
+  abbrev pub firstIndex : (A → Bool) → List A → ℕ
+  firstIndex p [] = 0
+  firstIndex p (x ∷ xs) = cond (p x) 0 (suc (firstIndex p xs))
+
+  -- a list with the element at an index changed; an index past the end changes nothing
+  abbrev pub changeAt : ℕ → (A → A) → List A → List A
+  changeAt i f [] = []
+  changeAt zero f (x ∷ xs) = f x ∷ xs
+  changeAt (suc i) f (x ∷ xs) = x ∷ changeAt i f xs
+
+  -- a list with its first n elements changed, as a list of their own
+  abbrev pub onFront : ℕ → (List A → List A) → List A → List A
+  onFront n f l = f (take n l) ++ drop n l
+
+  -- whether an element passes a test
+  abbrev pub any : (A → Bool) → List A → Bool
+  any p [] = false
+  any p (x ∷ xs) = cond (p x) true (any p xs)
+
+  -- the first element that passes a test is changed
+  abbrev pub changeFirst : (A → Bool) → (A → A) → List A → List A
+  changeFirst p f [] = []
+  changeFirst p f (x ∷ xs) = cond (p x) (f x ∷ xs) (x ∷ changeFirst p f xs)
+
+  -- the first element that passes a test is left out
+  abbrev pub removeFirst : (A → Bool) → List A → List A
+  removeFirst p [] = []
+  removeFirst p (x ∷ xs) = cond (p x) xs (x ∷ removeFirst p xs)
+
+  -- the element at place k is left out
+  abbrev pub removeAt : ℕ → List A → List A
+  removeAt k [] = []
+  removeAt zero (x ∷ xs) = xs
+  removeAt (suc k) (x ∷ xs) = x ∷ removeAt k xs

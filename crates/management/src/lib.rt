@@ -1,4 +1,6 @@
 // Requests, confirms and indications of the NLME, and the slots that hold an indication until it is taken.
+ghost use mathlib.Core.Path.{_≡_};
+ghost use Rattle.management.specs.Signals.{withRejoinResponse, withTimeoutResponse, withLeaveIndication, withStatusIndication};
 use nib::CapabilityInformation;
 use nib::ExtendedPanId;
 use nib::OptionalIeee;
@@ -42,6 +44,34 @@ pub struct NlmeJoinConfirm {
     pub network_address: ShortAddress,
     pub extended_pan_id: ExtendedPanId,
     pub channel: u8,
+}
+
+// The answers to a send, a poll or receive, a negotiation and a keepalive.
+pub enum SendAnswer {
+    SendOk,
+    SendNotJoined,
+    SendMacError,
+    SendParentLinkFailure,
+}
+
+pub enum PollAnswer {
+    PollData,
+    PollNothing,
+    PollNotJoined,
+    PollMacError,
+    PollUndecodable,
+}
+
+pub enum NegotiationAnswer {
+    Negotiated,
+    NotNegotiated,
+    NegotiationNotJoined,
+    NegotiationMacError,
+}
+
+pub enum KeepaliveAnswer {
+    KeepaliveOk,
+    KeepaliveParentLinkFailure,
 }
 
 // No device address: this device was removed.
@@ -91,4 +121,63 @@ pub struct Signals {
     pub timeout_response: TimeoutResponseSlot,
     pub leave_indication: LeaveIndicationSlot,
     pub nwk_status_indication: StatusIndicationSlot,
+}
+
+impl Signals {
+    // Each of these replaces the value of one slot, or empties it; the other three stay.
+    pub fn with_rejoin_response(self, slot: RejoinResponseSlot) -> Signals
+        ensures { λ r. ⌜ r ≡ withRejoinResponse slot self ⌝ }
+    {
+        let timeout_response = self.timeout_response;
+        let leave_indication = self.leave_indication;
+        let nwk_status_indication = self.nwk_status_indication;
+        Signals {
+            rejoin_response: slot,
+            timeout_response,
+            leave_indication,
+            nwk_status_indication,
+        }
+    }
+
+    pub fn with_timeout_response(self, slot: TimeoutResponseSlot) -> Signals
+        ensures { λ r. ⌜ r ≡ withTimeoutResponse slot self ⌝ }
+    {
+        let rejoin_response = self.rejoin_response;
+        let leave_indication = self.leave_indication;
+        let nwk_status_indication = self.nwk_status_indication;
+        Signals {
+            rejoin_response,
+            timeout_response: slot,
+            leave_indication,
+            nwk_status_indication,
+        }
+    }
+
+    pub fn with_leave_indication(self, slot: LeaveIndicationSlot) -> Signals
+        ensures { λ r. ⌜ r ≡ withLeaveIndication slot self ⌝ }
+    {
+        let rejoin_response = self.rejoin_response;
+        let timeout_response = self.timeout_response;
+        let nwk_status_indication = self.nwk_status_indication;
+        Signals {
+            rejoin_response,
+            timeout_response,
+            leave_indication: slot,
+            nwk_status_indication,
+        }
+    }
+
+    pub fn with_status_indication(self, slot: StatusIndicationSlot) -> Signals
+        ensures { λ r. ⌜ r ≡ withStatusIndication slot self ⌝ }
+    {
+        let rejoin_response = self.rejoin_response;
+        let timeout_response = self.timeout_response;
+        let leave_indication = self.leave_indication;
+        Signals {
+            rejoin_response,
+            timeout_response,
+            leave_indication,
+            nwk_status_indication: slot,
+        }
+    }
 }

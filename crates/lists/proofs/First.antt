@@ -1,0 +1,43 @@
+-- Laws of the first element that passes a test. Assumes nothing.
+use Prim.Native.Nat.{ℕ, suc, _+_, _<_, _≤_, zero-le, suc-le-suc}
+use mathlib.Core.Path.{_≡_, refl}
+use mathlib.Core.Bool.{Bool, true, false, cond}
+use mathlib.Core.List.{List, [], _∷_}
+use native.Mathlib.Nat.{le-of-suc-le-suc, not-suc-le-zero}
+use native.Mathlib.Numerals.{add-one}
+use lib.ListN.{length, drop, getD}
+use lib.Seq.{drop-cons}
+use Rattle.lists.specs.Lists.{firstIndex, changeAt}
+
+module _ {A : Type 0} (p : A → Bool) where
+  -- the first index, from what is left of the list at i
+  pub first-here : (l : List A) (i : ℕ) (d : A) → i < length l → p (getD l i d) ≡ true → firstIndex p (drop i l) ≡ 0
+  first-here l i d h t = rw (drop-cons l i d h, t)
+
+  pub first-on : (l : List A) (i : ℕ) (d : A) → i < length l → p (getD l i d) ≡ false → firstIndex p (drop i l) ≡ suc (firstIndex p (drop (i + 1) l))
+  first-on l i d h t = rw (add-one, drop-cons l i d h, t)
+
+  pub first-le : (l : List A) → firstIndex p l ≤ length l
+  first-le [] = zero-le
+  first-le (x ∷ xs) = go (p x) (first-le xs)
+    where
+      go : (b : Bool) {n m : ℕ} → n ≤ m → cond b 0 (suc n) ≤ suc m
+      go true h = zero-le
+      go false h = suc-le-suc h
+
+  -- where an element passes, the one at the first index does
+  pub first-passes : (l : List A) (d : A) → firstIndex p l < length l → p (getD l (firstIndex p l) d) ≡ true
+  first-passes [] d h = absurd (not-suc-le-zero h)
+  first-passes (x ∷ xs) d h = go (p x) refl (first-passes xs d) h
+    where
+      go : (b : Bool) → p x ≡ b → (firstIndex p xs < length xs → p (getD xs (firstIndex p xs) d) ≡ true) → cond b 0 (suc (firstIndex p xs)) < suc (length xs) → p (getD (x ∷ xs) (cond b 0 (suc (firstIndex p xs))) d) ≡ true
+      go true e k h = e
+      go false e k h = k (le-of-suc-le-suc h)
+
+  -- a change of the first that passes, one element at a time
+  pub first-change : (f : A → A) (x : A) (xs : List A) → changeAt (firstIndex p (x ∷ xs)) f (x ∷ xs) ≡ cond (p x) (f x ∷ xs) (x ∷ changeAt (firstIndex p xs) f xs)
+  first-change f x xs = go (p x)
+    where
+      go : (b : Bool) → changeAt (cond b 0 (suc (firstIndex p xs))) f (x ∷ xs) ≡ cond b (f x ∷ xs) (x ∷ changeAt (firstIndex p xs) f xs)
+      go true = refl
+      go false = refl

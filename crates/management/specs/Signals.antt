@@ -1,0 +1,42 @@
+-- The four slots, with one of them replaced (01, "Received frame": "Each indication slot keeps the newest value until taken").
+use Rattle.management.specs.declared.RejoinResponseSlot.{RejoinResponseSlot}
+use Rattle.management.specs.declared.TimeoutResponseSlot.{TimeoutResponseSlot}
+use Rattle.management.specs.declared.LeaveIndicationSlot.{LeaveIndicationSlot}
+use Rattle.management.specs.declared.StatusIndicationSlot.{StatusIndicationSlot}
+use Rattle.management.specs.declared.Signals.{Signals}
+
+abbrev pub withRejoinResponse : RejoinResponseSlot → Signals → Signals
+withRejoinResponse slot s =
+    record {
+      «rejoin_response» = slot;
+      «timeout_response» = s .«timeout_response»;
+      «leave_indication» = s .«leave_indication»;
+      «nwk_status_indication» = s .«nwk_status_indication»;
+    }
+
+abbrev pub withTimeoutResponse : TimeoutResponseSlot → Signals → Signals
+withTimeoutResponse slot s =
+    record {
+      «rejoin_response» = s .«rejoin_response»;
+      «timeout_response» = slot;
+      «leave_indication» = s .«leave_indication»;
+      «nwk_status_indication» = s .«nwk_status_indication»;
+    }
+
+abbrev pub withLeaveIndication : LeaveIndicationSlot → Signals → Signals
+withLeaveIndication slot s =
+    record {
+      «rejoin_response» = s .«rejoin_response»;
+      «timeout_response» = s .«timeout_response»;
+      «leave_indication» = slot;
+      «nwk_status_indication» = s .«nwk_status_indication»;
+    }
+
+abbrev pub withStatusIndication : StatusIndicationSlot → Signals → Signals
+withStatusIndication slot s =
+    record {
+      «rejoin_response» = s .«rejoin_response»;
+      «timeout_response» = s .«timeout_response»;
+      «leave_indication» = s .«leave_indication»;
+      «nwk_status_indication» = slot;
+    }

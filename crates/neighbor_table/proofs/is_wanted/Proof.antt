@@ -1,0 +1,19 @@
+-- `is_wanted` meets its contract. Assumes nothing.
+use borrow.Author.Needs.{needs}
+use Rattle.neighbor_table.proofs.is_wanted.Statement.{statement}
+use Rattle.neighbor_table.proofs.is_wanted.Tie as tie
+
+enum-known-wanted : tie.Need-enum-known-wanted
+enum-known-wanted c = search needs
+
+enum-told : tie.Need-enum-told
+enum-told c = search needs
+
+returns : tie.Need-returns
+returns c = rw (c .before .before .before .wanted .given .1)
+
+returns-2 : tie.Need-returns-2
+returns-2 c = rw (c .before .enum-told .given .1)
+
+pub is-wanted-spec : {M : Type 1} → statement M
+is-wanted-spec = tie.close (tie.spec enum-known-wanted enum-told returns returns-2)
