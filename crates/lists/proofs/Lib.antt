@@ -3,3 +3,4 @@ pub mod Conditions
 pub mod First
 pub mod Maps
 pub mod Pairs
+pub mod Collect

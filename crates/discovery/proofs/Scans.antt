@@ -1,0 +1,85 @@
+-- Laws of the entries made from a scan's descriptors. Assumes nothing.
+use Prim.Native.Nat.{ℕ, _+_, _<_, _≤_}
+use mathlib.Core.Path.{_≡_, refl, sym, ap}
+use mathlib.Core.Bool.{Bool, true, false, cond}
+use mathlib.Core.List.{List, [], _∷_, _++_, append-nil}
+use native.Mathlib.Omega.{arith}
+use borrow.Author.Tests.{ltb-true, ltb-false, le-ltb}
+use lib.Dec.{ltb, eqb}
+use lib.ListN.{length, take, getD, length-append}
+use lib.Seq.{take-all, take-append-le, length-take-le}
+use Rattle.lists.specs.Lists.{select}
+use Rattle.lists.proofs.Collect.{flatMap-append, flatMap-next, select-flatMap, length-flatMap}
+use Rattle.nib.specs.Neighbors.{tableOf, pushed}
+use Rattle.nib.specs.declared.Neighbor.{Neighbor}
+use Rattle.nib.specs.declared.Neighbor.the-variants.{Absent, Entry}
+use Rattle.nib.specs.declared.NwkNeighbor.{NwkNeighbor}
+use Rattle.nib.proofs.Tables.{push-of}
+use Rattle.mlme.specs.declared.Address.{Address}
+use Rattle.mlme.specs.declared.Address.the-variants.{Short, Extended}
+use Rattle.mlme.specs.declared.PanDescriptor.{PanDescriptor}
+use Rattle.discovery.specs.Discovery.{entryOf, neighborBy, neighborOf, present, neighborsOf, isShort, shortAddressed, beaconOf, added}
+
+-- what a read past the end of the descriptors gives
+abbrev pub noDescriptor : PanDescriptor
+noDescriptor =
+    record {
+      channel = 0;
+      «coord_pan_id» = record { 0 = 0 };
+      «coord_address» = Short (record { 0 = 0 }) (record { 0 = 0 });
+      «superframe_spec» = record { «beacon_order» = 0; «superframe_order» = 0; «association_permit» = false };
+      «link_quality» = 0;
+      «zigbee_beacon» = record { «stack_profile» = record { 0 = 0 }; «extended_pan_id» = record { 0 = 0 }; «update_id» = 0 };
+    }
+
+abbrev entriesFrom : PanDescriptor → List NwkNeighbor
+entriesFrom d = present (neighborOf d)
+
+pub neighbors-append : (ds es : List PanDescriptor) → neighborsOf (ds ++ es) ≡ neighborsOf ds ++ neighborsOf es
+unfolding neighborsOf
+neighbors-append = flatMap-append entriesFrom
+
+-- one descriptor more
+pub neighbors-next : (ds : List PanDescriptor) (i : ℕ) (d : PanDescriptor) → i < length ds → neighborsOf (take (i + 1) ds) ≡ neighborsOf (take i ds) ++ present (neighborOf (getD ds i d))
+unfolding neighborsOf
+neighbors-next = flatMap-next entriesFrom
+
+-- as many entries as short-addressed descriptors
+pub neighbors-many : (ds : List PanDescriptor) → length (neighborsOf ds) ≡ shortAddressed ds
+unfolding neighborsOf present neighborBy
+neighbors-many ds = length-flatMap entriesFrom (λ d. isShort (d .«coord_address»)) (λ d. one d (d .«coord_address»)) ds
+  where
+    one : (d : PanDescriptor) (a : Address) → length (present (neighborBy d a)) ≡ cond (isShort a) 1 0
+    one d (Short p a) = refl
+    one d (Extended p a) = refl
+
+-- with at most 16 short-addressed descriptors no entry is left out of the table
+pub neighbors-all : (ds : List PanDescriptor) → shortAddressed ds ≤ 16 → take 16 (neighborsOf ds) ≡ neighborsOf ds
+neighbors-all ds h = take-all 16 (neighborsOf ds) (omega (arith, neighbors-many ds))
+
+-- the entries of a network are those made from its beacons, in order
+pub network-neighbors : (n : ℕ) (ds : List PanDescriptor) → select (λ e. eqb (e .«extended_pan_id» .0) n) (neighborsOf ds) ≡ neighborsOf (select (beaconOf n) ds)
+unfolding neighborsOf present neighborBy entryOf
+network-neighbors n ds = select-flatMap entriesFrom (beaconOf n) (λ e. eqb (e .«extended_pan_id» .0) n) (λ d. own d (d .«coord_address»)) ds
+  where
+    none : (b : Bool) → _≡_ {A = List NwkNeighbor} [] (cond b [] [])
+    none true = refl
+    none false = refl
+
+    own : (d : PanDescriptor) (a : Address) → select (λ e. eqb (e .«extended_pan_id» .0) n) (present (neighborBy d a)) ≡ cond (beaconOf n d) (present (neighborBy d a)) []
+    own d (Short p a) = refl
+    own d (Extended p a) = none (beaconOf n d)
+
+-- a table of at most the first 16 entries, with what there is at its end
+pub added-next : (l : List NwkNeighbor) (x : Neighbor) → added (tableOf (take 16 l)) x ≡ tableOf (take 16 (l ++ present x))
+unfolding present pushed
+added-next l Absent = ap (λ (k : List NwkNeighbor). tableOf (take 16 k)) (sym (append-nil l))
+added-next l (Entry e) = go (ltb (length l) 16) refl
+  where
+    go : (b : Bool) → ltb (length l) 16 ≡ b → pushed (tableOf (take 16 l)) e ≡ tableOf (take 16 (l ++ (e ∷ [])))
+    go true q =
+        let h : length l < 16 = ltb-true (length l) 16 q in
+        rw (take-all 16 l (omega arith), take-all 16 (l ++ (e ∷ [])) (omega (arith, length-append l (e ∷ [])))) (push-of l e h)
+    go false q =
+        let h : 16 ≤ length l = ltb-false (length l) 16 q in
+        rw (le-ltb (length (take 16 l)) 16 (omega (arith, length-take-le 16 l h)), take-append-le 16 l (e ∷ []) h)

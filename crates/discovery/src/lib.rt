@@ -1,0 +1,252 @@
+// The neighbour table and the network descriptors that a discovery makes from a scan.
+ghost use Prim.Native.Nat.{_≤_};
+ghost use mathlib.Core.Path.{_≡_};
+ghost use mathlib.Core.Bool.{cond};
+ghost use mathlib.Core.List.{map};
+ghost use lib.ListN.{length, take};
+ghost use Rattle.nib.specs.Neighbors.{tableOf};
+ghost use Rattle.mlme.specs.Mlme.{descriptorsOf};
+ghost use Rattle.discovery.specs.Discovery.{
+  deviceType,
+  potentialParent,
+  entryOf,
+  neighborOf,
+  neighborsOf,
+  shortAddressed,
+  isShort,
+  added,
+  networkDescriptor,
+  blankDescriptor,
+  confirmOf,
+};
+use mlme::Address;
+use mlme::PanDescriptor;
+use mlme::PanDescriptorList;
+use mlme::StackProfile;
+use nib::DeviceType;
+use nib::ExtendedPanId;
+use nib::IeeeAddress;
+use nib::Neighbor;
+use nib::NeighborTable;
+use nib::NwkNeighbor;
+use nib::PanId;
+use nib::ShortAddress;
+
+// What a discovery tells of one beacon.
+pub struct NetworkDescriptor {
+    pub extended_pan_id: ExtendedPanId,
+    pub pan_id: PanId,
+    pub update_id: u8,
+    pub logical_channel: u8,
+    pub stack_profile: u8,
+    pub zigbee_version: u8,
+    pub beacon_order: u8,
+    pub superframe_order: u8,
+    pub permit_joining: bool,
+    pub router_capacity: bool,
+    pub end_device_capacity: bool,
+}
+
+// The confirm of a discovery: the first `count` descriptors are in use.
+pub struct NlmeNetworkDiscoveryConfirm {
+    pub network_descriptor: [NetworkDescriptor; 27],
+    pub count: u8,
+}
+
+// The device type of a beacon's sender, by its short address.
+fn device_type_at(address: ShortAddress) -> DeviceType
+    ensures { λ r. ⌜ r ≡ deviceType (address .0) ⌝ }
+{
+    if address.0 == nib::NWK_COORDINATOR_ADDRESS {
+        return DeviceType::Coordinator;
+    }
+    DeviceType::Router
+}
+
+// Whether a beacon's sender may become the parent, as 1 or 0.
+fn potential_parent(profile: StackProfile, address: ShortAddress) -> u8
+    ensures { λ r. ⌜ r ≡ potentialParent (profile .0) (address .0) ⌝ }
+{
+    if profile.router_capacity() {
+        return 1;
+    }
+    if profile.end_device_capacity() {
+        return 1;
+    }
+    if address.0 == nib::NWK_COORDINATOR_ADDRESS {
+        return 1;
+    }
+    0
+}
+
+// The entry of a beacon whose sender has this short address.
+fn entry_from(pd: PanDescriptor, address: ShortAddress) -> NwkNeighbor
+    ensures { λ r. ⌜ r ≡ entryOf pd address ⌝ }
+{
+    let beacon = pd.zigbee_beacon;
+    let profile = beacon.stack_profile;
+    let superframe = pd.superframe_spec;
+    let extended_pan_id = beacon.extended_pan_id;
+    let pan_id = pd.coord_pan_id;
+    let device_type = device_type_at(address);
+    NwkNeighbor {
+        extended_address: IeeeAddress(0),
+        network_address: address,
+        device_type,
+        rx_on_when_idle: false,
+        end_device_configuration: 0,
+        relationship: nib::relationship::NONE,
+        lqi: pd.link_quality,
+        outgoing_cost: 0,
+        age: 0,
+        keepalive_received: false,
+        extended_pan_id,
+        logical_channel: pd.channel,
+        depth: profile.device_depth(),
+        permit_joining: superframe.association_permit,
+        potential_parent: potential_parent(profile, address),
+        router_capacity: profile.router_capacity(),
+        end_device_capacity: profile.end_device_capacity(),
+        update_id: beacon.update_id,
+        pan_id,
+    }
+}
+
+// The neighbour entry of a descriptor, or none where its sender has no short address.
+pub fn neighbor_from(pd: PanDescriptor) -> Neighbor
+    ensures { λ r. ⌜ r ≡ neighborOf pd ⌝ }
+{
+    let address = pd.coord_address;
+    match address {
+        Address::Short(_, short) => {
+            let e = entry_from(pd, short);
+            Neighbor::Entry(e)
+        }
+        Address::Extended(_, _) => Neighbor::Absent,
+    }
+}
+
+// What the confirm tells of a descriptor.
+pub fn network_descriptor(pd: PanDescriptor) -> NetworkDescriptor
+    ensures { λ r. ⌜ r ≡ networkDescriptor pd ⌝ }
+{
+    let beacon = pd.zigbee_beacon;
+    let profile = beacon.stack_profile;
+    let superframe = pd.superframe_spec;
+    let extended_pan_id = beacon.extended_pan_id;
+    let pan_id = pd.coord_pan_id;
+    NetworkDescriptor {
+        extended_pan_id,
+        pan_id,
+        update_id: beacon.update_id,
+        logical_channel: pd.channel,
+        stack_profile: profile.stack_profile(),
+        zigbee_version: profile.protocol_version(),
+        beacon_order: superframe.beacon_order,
+        superframe_order: superframe.superframe_order,
+        permit_joining: superframe.association_permit,
+        router_capacity: profile.router_capacity(),
+        end_device_capacity: profile.end_device_capacity(),
+    }
+}
+
+// How many descriptors are in use: 27 where the count says more.
+fn in_use(list: PanDescriptorList) -> u8
+    ensures { λ r. ⌜ (r ≡ length (descriptorsOf list)) × (r ≤ 27) ⌝ }
+{
+    let count = list.count;
+    if count <= 27 { count as u8 } else { 27 }
+}
+
+// 1 for a short address, else 0.
+fn one_if_short(address: Address) -> usize
+    ensures { λ r. ⌜ r ≡ cond (isShort address) 1 0 ⌝ }
+{
+    match address {
+        Address::Short(_, _) => 1,
+        Address::Extended(_, _) => 0,
+    }
+}
+
+// How many of the descriptors in use are short-addressed.
+pub fn short_addressed(list: PanDescriptorList) -> usize
+    ensures { λ r. ⌜ r ≡ shortAddressed (descriptorsOf list) ⌝ }
+{
+    let n = in_use(list);
+    let mut found = 0;
+    let mut i = 0;
+    while i < n {
+        let at = i as usize;
+        let pd = list.descriptors[at];
+        let address = pd.coord_address;
+        found += one_if_short(address);
+        i += 1;
+    }
+    found
+}
+
+// The table with what a descriptor gives at its end.
+fn add_neighbor(table: NeighborTable, found: Neighbor) -> NeighborTable
+    ensures { λ r. ⌜ r ≡ added table found ⌝ }
+{
+    match found {
+        Neighbor::Entry(e) => table.push(e),
+        Neighbor::Absent => table,
+    }
+}
+
+// The neighbour table of a scan: its short-addressed descriptors in their order, at most 16.
+pub fn neighbor_table_from(list: PanDescriptorList) -> NeighborTable
+    ensures { λ r. ⌜ r ≡ tableOf (take 16 (neighborsOf (descriptorsOf list))) ⌝ }
+{
+    let n = in_use(list);
+    let mut table = NeighborTable::new();
+    let mut i = 0;
+    while i < n {
+        let at = i as usize;
+        let pd = list.descriptors[at];
+        table = add_neighbor(table, neighbor_from(pd));
+        i += 1;
+    }
+    table
+}
+
+// What an unused place of the confirm holds.
+fn blank_descriptor() -> NetworkDescriptor
+    ensures { λ r. ⌜ r ≡ blankDescriptor ⌝ }
+{
+    NetworkDescriptor {
+        extended_pan_id: ExtendedPanId(0),
+        pan_id: PanId(0),
+        update_id: 0,
+        logical_channel: 0,
+        stack_profile: 0,
+        zigbee_version: 0,
+        beacon_order: 0,
+        superframe_order: 0,
+        permit_joining: false,
+        router_capacity: false,
+        end_device_capacity: false,
+    }
+}
+
+// The confirm of a discovery: one descriptor for each of the scan, in its order.
+pub fn network_descriptors(list: PanDescriptorList) -> NlmeNetworkDiscoveryConfirm
+    ensures { λ r. ⌜ r ≡ confirmOf (map networkDescriptor (descriptorsOf list)) ⌝ }
+{
+    let n = in_use(list);
+    let none = blank_descriptor();
+    let mut slots = [none; 27];
+    let mut i = 0;
+    while i < n {
+        let at = i as usize;
+        let pd = list.descriptors[at];
+        let d = network_descriptor(pd);
+        slots[at] = d;
+        i += 1;
+    }
+    NlmeNetworkDiscoveryConfirm {
+        network_descriptor: slots,
+        count: n,
+    }
+}

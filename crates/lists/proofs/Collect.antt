@@ -1,0 +1,68 @@
+-- Laws of what a function gives for each element of a list, in order (`select`, `flatMap`, `map`). Assumes nothing.
+use Prim.Native.Nat.{ℕ, _+_, _<_}
+use mathlib.Core.Path.{_≡_, refl, sym, ap, _∙_}
+use mathlib.Core.Bool.{Bool, true, false, cond}
+use mathlib.Core.List.{List, [], _∷_, _++_, map, map-append, flatMap, append-assoc, append-nil}
+use native.Mathlib.Omega.{arith}
+use lib.ListN.{length, take, getD, set, length-append, length-map}
+use lib.Seq.{length-take-le}
+use Rattle.lists.specs.Lists.{over, select}
+use Rattle.lists.proofs.Lists.{take-next, over-snoc}
+
+module _ {A : Type 0} where
+  pub select-append : (p : A → Bool) (l k : List A) → select p (l ++ k) ≡ select p l ++ select p k
+  select-append p [] k = refl
+  select-append p (x ∷ xs) k = go (p x) (select-append p xs k)
+    where
+      go : (b : Bool) → select p (xs ++ k) ≡ select p xs ++ select p k → cond b (x ∷ select p (xs ++ k)) (select p (xs ++ k)) ≡ cond b (x ∷ select p xs) (select p xs) ++ select p k
+      go true h = ap (λ (z : List A). x ∷ z) h
+      go false h = h
+
+  -- how many pass a test, with one element more
+  pub select-next : (p : A → Bool) (l : List A) (i : ℕ) (d : A) → i < length l → length (select p (take (i + 1) l)) ≡ length (select p (take i l)) + cond (p (getD l i d)) 1 0
+  select-next p l i d h = rw (take-next l i d h, select-append, length-append) (ap (λ (n : ℕ). length (select p (take i l)) + n) (one (p (getD l i d))))
+    where
+      one : (b : Bool) → length (cond b (getD l i d ∷ []) []) ≡ cond b 1 0
+      one true = refl
+      one false = refl
+
+module _ {A B : Type 0} (f : A → List B) where
+  pub flatMap-append : (l k : List A) → flatMap f (l ++ k) ≡ flatMap f l ++ flatMap f k
+  unfolding flatMap
+  flatMap-append [] k = refl
+  flatMap-append (x ∷ xs) k = ap (λ (z : List B). f x ++ z) (flatMap-append xs k) ∙ sym (append-assoc (f x) (flatMap f xs) (flatMap f k))
+
+  -- one element more
+  pub flatMap-next : (l : List A) (i : ℕ) (d : A) → i < length l → flatMap f (take (i + 1) l) ≡ flatMap f (take i l) ++ f (getD l i d)
+  unfolding flatMap
+  flatMap-next l i d h = rw (take-next l i d h, flatMap-append (take i l) (getD l i d ∷ []), append-nil)
+
+  -- where a test on what is given is a test on the element, it may be made before or after
+  pub select-flatMap : (p : A → Bool) (q : B → Bool) → ((x : A) → select q (f x) ≡ cond (p x) (f x) []) → (l : List A) → select q (flatMap f l) ≡ flatMap f (select p l)
+  unfolding flatMap
+  select-flatMap p q same [] = refl
+  select-flatMap p q same (x ∷ xs) = select-append q (f x) (flatMap f xs) ∙ go (p x) (same x) (select-flatMap p q same xs)
+    where
+      go : (b : Bool) → select q (f x) ≡ cond b (f x) [] → select q (flatMap f xs) ≡ flatMap f (select p xs) → select q (f x) ++ select q (flatMap f xs) ≡ flatMap f (cond b (x ∷ select p xs) (select p xs))
+      go true e h = rw (e, h)
+      go false e h = rw (e, h)
+
+  -- where one is given for each element that passes a test, and none for another
+  pub length-flatMap : (p : A → Bool) → ((x : A) → length (f x) ≡ cond (p x) 1 0) → (l : List A) → length (flatMap f l) ≡ length (select p l)
+  unfolding flatMap
+  length-flatMap p one [] = refl
+  length-flatMap p one (x ∷ xs) = length-append (f x) (flatMap f xs) ∙ go (p x) (one x) (length-flatMap p one xs)
+    where
+      go : (b : Bool) {n : ℕ} → length (f x) ≡ cond b 1 0 → n ≡ length (select p xs) → length (f x) + n ≡ length (cond b (x ∷ select p xs) (select p xs))
+      go true e h = omega arith
+      go false e h = omega arith
+
+module _ {A B : Type 0} (f : A → B) where
+  -- one image more, over the front of a base
+  pub map-next : (base : List B) (l : List A) (i : ℕ) (d : A) → i < length l → i < length base → set (over base (map f (take i l))) i (f (getD l i d)) ≡ over base (map f (take (i + 1) l))
+  map-next base l i d h k =
+      let m = map f (take i l) in
+      let n : length m ≡ i = length-map (take i l) f ∙ length-take-le i l (omega arith) in
+      ap (λ (j : ℕ). set (over base m) j (f (getD l i d))) (sym n)
+      ∙ over-snoc base m (f (getD l i d)) (omega arith)
+      ∙ ap (over base) (sym (ap (map f) (take-next l i d h) ∙ map-append f (take i l) (getD l i d ∷ [])))
