@@ -4,3 +4,5 @@ pub mod First
 pub mod Maps
 pub mod Pairs
 pub mod Collect
+pub mod Order
+pub mod Indexes

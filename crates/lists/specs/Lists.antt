@@ -1,5 +1,5 @@
 -- Functions on lists that the definitions of every crate are made of.
-use Prim.Native.Nat.{ℕ, zero, suc}
+use Prim.Native.Nat.{ℕ, zero, suc, _<_}
 use mathlib.Core.Bool.{Bool, true, false, cond}
 use mathlib.Core.List.{List, [], _∷_, _++_}
 use mathlib.Core.Path.{_≡_}
@@ -95,3 +95,7 @@ module _ {A : Type 0} where
   removeAt k [] = []
   removeAt zero (x ∷ xs) = xs
   removeAt (suc k) (x ∷ xs) = x ∷ removeAt k xs
+
+-- x before y in the order by a key, and by number among equal keys
+abbrev pub Lex : (ℕ → ℕ) → ℕ → ℕ → Type 0
+Lex k x y = (k x < k y) ⊎ ((k x ≡ k y) × (x < y))

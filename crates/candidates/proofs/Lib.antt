@@ -1,0 +1,5 @@
+pub mod NewestNext
+pub mod Chosen
+pub mod Listed
+pub mod Laws
+pub mod Network

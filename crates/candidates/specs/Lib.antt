@@ -1,0 +1,3 @@
+pub mod UpdateIds
+pub mod Candidates
+pub mod Steps

@@ -1,0 +1,53 @@
+-- The newest update id of a network (01, "Candidate list"; Zigbee 3.6.1.4.1.1, where the id is a counter that wraps back to 0).
+use Prim.Native.Nat.{ℕ, _+_, _-_, _%_}
+use mathlib.Core.Bool.{Bool, true, false, cond, not, _&&_}
+use mathlib.Core.List.{List}
+use lib.Dec.{eqb, ltb}
+use lib.IntN.{ℤ, pos, negsuc}
+use Rattle.lists.specs.Lists.{foldl, select}
+use Rattle.nib.specs.declared.NwkNeighbor.{NwkNeighbor}
+use Rattle.candidates.specs.declared.Newest.{Newest}
+use Rattle.candidates.specs.declared.Newest.the-variants.{Nothing, Id}
+
+-- the 8-bit wrapping difference of two update ids
+abbrev pub difference : ℕ → ℕ → ℕ
+difference a b = (a + (256 - b)) % 256
+
+-- an 8-bit number read as signed: from 128 on it is the number less 256 (`negsuc n` is -(n + 1))
+abbrev pub signed8 : ℕ → ℤ
+signed8 d = cond (ltb d 128) (pos d) (negsuc (255 - d))
+
+abbrev pub aboveZero : ℤ → Bool
+aboveZero (pos n) = not (eqb n 0)
+aboveZero (negsuc n) = false
+
+-- an id is newer than the best so far: their difference, read as signed, is above 0 (01, "Candidate list"; Zigbee 3.6.1.4.1.1)
+unfoldable pub newer : ℕ → ℕ → Bool
+newer id best = aboveZero (signed8 (difference id best))
+
+-- the entry is of network n
+abbrev pub ofNetwork : ℕ → NwkNeighbor → Bool
+ofNetwork n e = eqb (e .«extended_pan_id» .0) n
+
+-- the entries of network n, in order
+abbrev pub networkOf : ℕ → List NwkNeighbor → List NwkNeighbor
+networkOf n es = select (ofNetwork n) es
+
+-- joining is permitted; a join asks it, a rejoin doesn't (Zigbee 3.6.1.4.2)
+abbrev pub permits : Bool → NwkNeighbor → Bool
+permits permit e = cond permit (e .«permit_joining») true
+
+-- potential parent 1
+abbrev pub potential : NwkNeighbor → Bool
+potential e = eqb (e .«potential_parent») 1
+
+-- a later id replaces the best so far if it is newer
+abbrev pub replaced : Newest → ℕ → Newest
+replaced Nothing id = Id id
+replaced (Id best) id = cond (newer id best) (Id id) (Id best)
+
+-- "newest" (01, "Candidate list"): the update ids of network n's entries with potential parent 1 (and permitted, for a join), taken left to right.
+-- Capacity and LQI play no part in it
+unfoldable pub newest : Bool → ℕ → List NwkNeighbor → Newest
+newest permit n es =
+    foldl (λ best e. replaced best (e .«update_id»)) Nothing (select (λ e. permits permit e && potential e) (networkOf n es))
