@@ -1,0 +1,96 @@
+-- What calls do to the node's own part: frames out, the signal of a parent link failure, and the parent's supervision.
+use Prim.Native.Nat.{ℕ}
+use mathlib.Core.Bool.{Bool, true, false, cond}
+use Rattle.nib.specs.declared.ShortAddress.{ShortAddress}
+use Rattle.nib.specs.declared.NwkNeighbor.{NwkNeighbor}
+use Rattle.nib.specs.declared.Neighbor.{Neighbor}
+use Rattle.nib.specs.declared.Neighbor.the-variants.{Absent, Entry}
+use Rattle.nib.specs.declared.OptionalIeee.{OptionalIeee}
+use Rattle.neighbor_table.specs.NeighborTable.{knownIeee}
+use Rattle.parent_timer.specs.Timer.{ticked}
+use Rattle.parent_timer.specs.declared.Ticked.{Ticked}
+use Rattle.supervision.specs.declared.FailedSend.{FailedSend}
+use Rattle.supervision.specs.Timeouts as timeouts
+use Rattle.supervision.specs.Failures.{cleared, transmitFailed}
+use Rattle.management.specs.Signals.{withStatusIndication}
+use Rattle.management.specs.declared.SendAnswer.the-variants.{SendOk, SendMacError, SendParentLinkFailure}
+use Rattle.management.specs.declared.StatusIndicationSlot.the-variants.{HasStatusIndication}
+use Rattle.frame.specs.Frame.{nextSeq}
+use Rattle.frame.specs.declared.CommandHeader.{CommandHeader}
+use Rattle.frame.specs.declared.SentFrame.{SentFrame}
+use Rattle.frame.specs.declared.SentFrame.the-variants.{TimeoutRequest}
+use Rattle.nlme.specs.declared.Nlme.{Nlme}
+use Rattle.nlme.specs.declared.NlmeTicked.{NlmeTicked}
+use Rattle.nlme.specs.declared.ViaParent.{ViaParent}
+use Rattle.nlme.specs.declared.Transmission.{Transmission}
+use Rattle.nlme.specs.declared.Transmitting.{Transmitting}
+use Rattle.nlme.specs.Fields.{withNib, withSeq, withPending, withTimer, withSignals, withFailures, withNegotiated}
+
+-- the parent's short address as a signal carries it: 0xffff where there is no parent (01, "Supervision record")
+abbrev pub parentAddress : Neighbor → ShortAddress
+parentAddress Absent = record { 0 = 0xffff }
+parentAddress (Entry e) = e .«network_address»
+
+-- the signal ParentLinkFailure (Zigbee 3.2.2.32): the slot has the parent's short address
+unfoldable pub linkFailure : Neighbor → Nlme → Nlme
+linkFailure parent n = withSignals (withStatusIndication (HasStatusIndication (record { «network_address» = parentAddress parent })) (n .signals)) n
+
+-- the timer restarted at the negotiated timeout; 0 where there is none (Zigbee 3.6.10.6)
+unfoldable pub refreshed : Nlme → Nlme
+refreshed n = withTimer (timeouts.refreshed (n .nib .«end_device_timeout»)) n
+
+-- before a join or rejoin: parent information 0, timeout index 0xff, timer 0 (01, "Join request and confirm"; Zigbee 3.2.2.13.3)
+unfoldable pub negotiationReset : Nlme → Nlme
+negotiationReset n = withTimer (record { «remaining_ms» = 0 }) (withNib (withNegotiated 0 0xff (n .nib)) n)
+
+-- the header of the next command frame: own addresses, the next sequence number (Zigbee 3.3.1)
+unfoldable pub commandHeader : Nlme → ShortAddress → OptionalIeee → Bool → CommandHeader
+commandHeader n destination ieee secure =
+    record {
+      destination = destination;
+      «destination_ieee» = ieee;
+      source = n .nib .«network_address»;
+      «source_ieee» = n .nib .«ieee_address»;
+      «sequence_number» = nextSeq (n .«nwk_seq»);
+      secure = secure;
+    }
+
+-- a sequence number is used up
+abbrev pub seqUsed : Nlme → Nlme
+seqUsed n = withSeq (nextSeq (n .«nwk_seq»)) n
+
+-- a frame to a neighbour of this network
+abbrev pub transmission : Nlme → ShortAddress → SentFrame → Transmission
+transmission n to frame = record { «pan_id» = n .nib .panid; address = to; frame = frame }
+
+-- a timeout request to the parent asks for the default index, which is pending once the request is built (01, "Supervision record"; Zigbee 3.6.10.2)
+unfoldable pub timeoutRequested : NwkNeighbor → Nlme → Transmitting
+timeoutRequested parent n =
+    record {
+      nlme = withPending (n .nib .«end_device_timeout_default») (seqUsed n);
+      transmission = transmission n (parent .«network_address»)
+          (TimeoutRequest (commandHeader n (parent .«network_address») (knownIeee (Entry parent)) true) (n .nib .«end_device_timeout_default»));
+    }
+
+-- the tick (01, "Supervision record"; Zigbee 3.6.10.6): expiry signals ParentLinkFailure
+unfoldable pub clocked : Neighbor → Nlme → Ticked → NlmeTicked
+clocked parent n t =
+    cond (t .expired) (record { nlme = linkFailure parent (withTimer (t .timer) n); expired = true }) (record { nlme = withTimer (t .timer) n; expired = false })
+
+abbrev pub nlmeTicked : Neighbor → ℕ → Nlme → NlmeTicked
+nlmeTicked parent elapsed n = clocked parent n (ticked (n .«parent_timer») elapsed)
+
+-- the outcome of a send by `transmit_via_parent` (01, "Supervision record"; Zigbee 3.6.3.7): a success removes the parent's pair and restarts the timer;
+-- a failure counts, and the third signals ParentLinkFailure
+unfoldable pub sentViaParent : Neighbor → Nlme → ViaParent
+sentViaParent parent n =
+    record { nlme = refreshed (withFailures (cleared (n .«transmit_failures») (parentAddress parent)) n); answer = SendOk }
+
+unfoldable pub counted : Neighbor → Nlme → FailedSend → ViaParent
+counted parent n f =
+    cond (f .«link_failed»)
+    (record { nlme = linkFailure parent (withFailures (f .failures) n); answer = SendParentLinkFailure })
+    (record { nlme = withFailures (f .failures) n; answer = SendMacError })
+
+abbrev pub failedViaParent : Neighbor → Nlme → ViaParent
+failedViaParent parent n = counted parent n (transmitFailed (n .«transmit_failures») (parentAddress parent))

@@ -1,0 +1,18 @@
+-- A tick of the parent timer (01, "Supervision record"; Zigbee 3.6.10.6).
+use Prim.Native.Nat.{ℕ, _-_, max}
+use mathlib.Core.Bool.{not, _&&_}
+use lib.Dec.{eqb}
+use Rattle.parent_timer.specs.declared.ParentTimer.{ParentTimer}
+use Rattle.parent_timer.specs.declared.Ticked.{Ticked}
+
+-- the milliseconds that a tick leaves: the elapsed ones are taken off, at least 1; `-` stops at 0
+abbrev pub left : ℕ → ℕ → ℕ
+left ms elapsed = ms - max elapsed 1
+
+-- a timer at 0 is inactive and stays so; any other expires when it reaches 0
+unfoldable pub ticked : ParentTimer → ℕ → Ticked
+ticked t elapsed =
+    record {
+      timer = record { «remaining_ms» = left (t .«remaining_ms») elapsed };
+      expired = not (eqb (t .«remaining_ms») 0) && eqb (left (t .«remaining_ms») elapsed) 0;
+    }

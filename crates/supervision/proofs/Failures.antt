@@ -1,0 +1,36 @@
+-- Laws of the pairs as a list. Assumes nothing.
+use Prim.Native.Nat.{ℕ, _<_, _≤_}
+use mathlib.Core.Path.{_≡_, refl, sym}
+use mathlib.Core.Bool.{Bool, true, false, cond}
+use mathlib.Core.List.{List, [], _∷_, _++_}
+use native.Mathlib.Omega.{arith}
+use borrow.Author.Tests.{ltb-true}
+use lib.Dec.{ltb}
+use lib.ListN.{length, drop, getD, set, replicate, length-append, length-set, length-drop}
+use Rattle.lists.specs.Lists.{over}
+use Rattle.lists.proofs.Lists.{over-snoc}
+use Rattle.lists.proofs.Pairs.{over-set}
+use Rattle.supervision.specs.Failures.{blankPair, failuresOf, counted, oneMore, roomy, pushed, countedAt}
+use Rattle.supervision.specs.declared.TransmitFailure.{TransmitFailure}
+use Rattle.supervision.specs.declared.Recorded.{Recorded}
+
+-- one pair more
+pub push-of : (l : List TransmitFailure) (x : TransmitFailure) → length l < 16 → pushed (failuresOf l) x ≡ failuresOf (l ++ (x ∷ []))
+push-of l x h = λ i. record { pairs = over-snoc (replicate 16 blankPair) l x h i; count = sym (length-append l (x ∷ [])) i }
+
+-- one failure more, written at its place
+pub count-of : (l : List TransmitFailure) (k : ℕ) → k < length l
+    → _≡_ {A = Recorded} (record { failures = record { pairs = set (over (replicate 16 blankPair) l) k (counted (getD l k blankPair)); count = length l }; total = oneMore (getD l k blankPair .count) }) (countedAt l k)
+count-of l k h =
+    λ i. record {
+      failures = record { pairs = over-set (replicate 16 blankPair) l k (counted (getD l k blankPair)) h i; count = sym (length-set l k (counted (getD l k blankPair))) i };
+      total = oneMore (getD l k blankPair .count);
+    }
+
+-- there is room
+pub roomy-few : (l : List TransmitFailure) → length l ≤ 16 → length (roomy l) < 16
+roomy-few l h = go (ltb (length l) 16) refl
+  where
+    go : (b : Bool) → ltb (length l) 16 ≡ b → length (cond b l (drop 1 l)) < 16
+    go true e = ltb-true (length l) 16 e
+    go false e = omega (arith, length-drop 1 l)

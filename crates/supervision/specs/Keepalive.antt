@@ -1,0 +1,36 @@
+-- Keepalives (01, "Supervision record"; Zigbee 3.6.10.3).
+use Prim.Native.Nat.{ℕ, _/_}
+use mathlib.Core.Bool.{cond}
+use Rattle.nib.specs.Identifiers.{bit}
+use Rattle.supervision.specs.Timeouts.{timeoutSeconds, mapPeriod, negotiatedTimeoutMs}
+use Rattle.supervision.specs.declared.OptionalPeriod.{OptionalPeriod}
+use Rattle.supervision.specs.declared.OptionalPeriod.the-variants.{NoPeriod, Period}
+use Rattle.supervision.specs.declared.KeepaliveMethod.{KeepaliveMethod}
+use Rattle.supervision.specs.declared.KeepaliveMethod.the-variants.{MacDataPoll, TimeoutRequest, NoKeepalive}
+
+-- the interval between keepalives in milliseconds: a third of the timeout
+unfoldable pub keepaliveIntervalMs : ℕ → OptionalPeriod
+keepaliveIntervalMs timeout = mapPeriod (λ ms. ms / 3) (negotiatedTimeoutMs timeout)
+
+-- the method that the parent information names: bit 0 comes before bit 1
+unfoldable pub offered : ℕ → KeepaliveMethod
+offered information = cond (bit 0 information) MacDataPoll (cond (bit 1 information) TimeoutRequest NoKeepalive)
+
+-- a method where there is a period
+abbrev pub methodFor : OptionalPeriod → KeepaliveMethod → KeepaliveMethod
+methodFor NoPeriod m = NoKeepalive
+methodFor (Period n) m = m
+
+-- the keepalive method: none without a negotiated timeout
+unfoldable pub keepaliveMethod : ℕ → ℕ → KeepaliveMethod
+keepaliveMethod timeout information = methodFor (timeoutSeconds timeout) (offered information)
+
+-- a period where the method is the MAC data poll
+abbrev pub periodFor : KeepaliveMethod → OptionalPeriod → OptionalPeriod
+periodFor MacDataPoll p = p
+periodFor TimeoutRequest p = NoPeriod
+periodFor NoKeepalive p = NoPeriod
+
+-- the interval between polls in milliseconds
+unfoldable pub negotiatedPollIntervalMs : ℕ → ℕ → OptionalPeriod
+negotiatedPollIntervalMs timeout information = periodFor (keepaliveMethod timeout information) (keepaliveIntervalMs timeout)

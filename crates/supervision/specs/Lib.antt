@@ -1,0 +1,3 @@
+pub mod Timeouts
+pub mod Keepalive
+pub mod Failures
