@@ -1,21 +1,15 @@
--- `main` ends: its loop goes through the bytes from 0 to 255. Assumes nothing.
+-- `rows` ends. Assumes nothing.
 use Prim.Native.Nat.{_≤_, _-_}
 use native.Mathlib.Omega.{arith}
 use borrow.Author.Needs.{needs}
-use Rattle.tables.proofs.main.Statement.{statement}
-use Rattle.tables.proofs.main.Tie as tie
+use Rattle.tables.proofs.rows.Statement.{statement}
+use Rattle.tables.proofs.rows.Tie as tie
 
 abbrev Inv-loop : tie.InvT-loop
 Inv-loop n₀ n = n ≤ 256
 
 abbrev μ-loop : tie.MeasureT-loop
 μ-loop n₀ n = 256 - n
-
-slice-aggregate-write-all : tie.Need-slice-aggregate-write-all Inv-loop μ-loop
-slice-aggregate-write-all c = search needs
-
-write-all-requires : tie.Need-write-all-requires Inv-loop μ-loop
-write-all-requires c κs = search needs
 
 loop-holds : tie.Need-loop-holds Inv-loop μ-loop
 loop-holds c = omega arith
@@ -38,18 +32,7 @@ loop-again c = omega arith
 returns : tie.Need-returns Inv-loop μ-loop
 returns c = search needs
 
-pub main-spec : {M : Type 1} → statement M
-main-spec =
+pub rows-spec : {M : Type 1} → statement M
+rows-spec =
     tie.close
-    (tie.spec
-    Inv-loop
-    μ-loop
-    slice-aggregate-write-all
-    write-all-requires
-    loop-holds
-    cast-row
-    row-requires
-    add-n
-    loop-less
-    loop-again
-    returns)
+    (tie.spec Inv-loop μ-loop loop-holds cast-row row-requires add-n loop-less loop-again returns)

@@ -1,0 +1,119 @@
+-- The marked cases P1 to P11 as one table of questions and answers (01, "Marked cases").
+use Prim.Native.Nat.{ℕ}
+use mathlib.Core.Path.{_≡_}
+use mathlib.Core.Bool.{Bool, true, false, cond}
+use mathlib.Core.List.{List, [], _∷_, map}
+use Rattle.lists.specs.Lists.{All}
+use Rattle.nib.specs.Identifiers.{linkCost}
+use Rattle.nib.specs.declared.NwkNeighbor.{NwkNeighbor}
+use Rattle.nib.specs.declared.DeviceType.the-variants.{Router}
+use Rattle.candidates.specs.UpdateIds.{newest}
+use Rattle.candidates.specs.Candidates.{candidates}
+use Rattle.candidates.specs.declared.Newest.{Newest}
+use Rattle.candidates.specs.declared.Newest.the-variants.{Nothing, Id}
+use Rattle.parent_timer.specs.Timer.{ticked}
+use Rattle.parent_timer.specs.declared.Ticked.{Ticked}
+use Rattle.supervision.specs.Timeouts.{refreshed}
+
+-- an entry by the fields that the choice reads: extended PAN id, depth, permit, router and end device capacity, LQI, update id
+abbrev pub entry : ℕ → ℕ → Bool → Bool → Bool → ℕ → ℕ → NwkNeighbor
+entry n depth permit router device lqi id =
+    record {
+      «extended_address» = record { 0 = 0 };
+      «network_address» = record { 0 = 0 };
+      «device_type» = Router;
+      «rx_on_when_idle» = true;
+      «end_device_configuration» = 0;
+      relationship = 3;
+      lqi = lqi;
+      «outgoing_cost» = 0;
+      age = 0;
+      «keepalive_received» = false;
+      «extended_pan_id» = record { 0 = n };
+      «logical_channel» = 11;
+      depth = depth;
+      «permit_joining» = permit;
+      «potential_parent» = 1;
+      «router_capacity» = router;
+      «end_device_capacity» = device;
+      «update_id» = id;
+      «pan_id» = record { 0 = 1 };
+    }
+
+-- an entry of network 1 with an update id: a potential parent that permits joining, has capacity and costs 1
+abbrev pub heard : ℕ → NwkNeighbor
+heard id = entry 1 0 true true true 255 id
+
+-- what a case asks for
+pub data Question : Type 0 where
+  -- the newest of some update ids
+  newestOf : List ℕ → Question
+  -- the cost of an LQI
+  costOf : ℕ → Question
+  -- the candidates of an empty table, by stack profile, role, whether joining must be permitted, and network
+  candidatesOfNone : ℕ → Bool → Bool → ℕ → Question
+  -- the milliseconds of a timeout index
+  timerOf : ℕ → Question
+  -- what a tick leaves of a timer, and whether it expired: milliseconds left, milliseconds elapsed
+  tickOf : ℕ → ℕ → Question
+
+abbrev pub found : Newest → List ℕ
+found Nothing = []
+found (Id id) = id ∷ []
+
+abbrev pub left : Ticked → List ℕ
+left t = t .timer .«remaining_ms» ∷ cond (t .expired) 1 0 ∷ []
+
+-- what the definitions answer
+abbrev pub answer : Question → List ℕ
+answer (newestOf ids) = found (newest true 1 (map heard ids))
+answer (costOf lqi) = linkCost lqi ∷ []
+answer (candidatesOfNone profile router permit n) = candidates profile router permit n []
+answer (timerOf index) = refreshed index .«remaining_ms» ∷ []
+answer (tickOf ms elapsed) = left (ticked (record { «remaining_ms» = ms }) elapsed)
+
+pub record Case : Type 0 where
+  pub asked : Question
+  pub expected : List ℕ
+
+abbrev pub case : Question → List ℕ → Case
+case q a = record { asked = q; expected = a }
+
+abbrev pub marked : List Case
+marked =
+    -- P1 to P5
+    case (newestOf (255 ∷ 0 ∷ [])) (0 ∷ [])
+    ∷ case (newestOf (0 ∷ 128 ∷ [])) (0 ∷ [])
+    ∷ case (newestOf (128 ∷ 0 ∷ [])) (128 ∷ [])
+    ∷ case (newestOf (0 ∷ 100 ∷ 200 ∷ [])) (200 ∷ [])
+    ∷ case (newestOf (200 ∷ 0 ∷ 100 ∷ [])) (100 ∷ [])
+    -- P6
+    ∷ case (costOf 25) (5 ∷ [])
+    ∷ case (costOf 26) (3 ∷ [])
+    -- P7
+    ∷ case (candidatesOfNone 0 false true 0) []
+    ∷ case (candidatesOfNone 1 true false 0xaa) []
+    -- P8: an inactive timer is at 0
+    ∷ case (timerOf 0) (10000 ∷ [])
+    ∷ case (timerOf 14) (983040000 ∷ [])
+    ∷ case (timerOf 15) (0 ∷ [])
+    -- P9 to P11
+    ∷ case (tickOf 1 0) (0 ∷ 1 ∷ [])
+    ∷ case (tickOf 0 0) (0 ∷ 0 ∷ [])
+    ∷ case (tickOf 0 4294967295) (0 ∷ 0 ∷ [])
+    ∷ case (tickOf 10000 9999) (1 ∷ 0 ∷ [])
+    ∷ []
+
+-- the common statement: each case's answer is the expected one
+abbrev pub Hold : List Case → Type 0
+Hold cs = All (λ c. answer (c .asked) ≡ c .expected) cs
+
+-- the printed example of the yard list
+abbrev pub yard : List NwkNeighbor
+yard =
+    entry 0xaa 0 true true true 25 3
+    ∷ entry 0xaa 2 true false true 26 3
+    ∷ entry 0xbb 0 true true true 200 9
+    ∷ entry 0xaa 1 true true true 128 3
+    ∷ entry 0xaa 1 true true true 255 2
+    ∷ []
