@@ -1,15 +1,14 @@
 -- Laws on the first element that passes a test: its place, its change and its removal. Assumes nothing.
-use Prim.Native.Nat.{ℕ, zero, suc, _+_, _<_, _≤_, zero-le, suc-le-suc, compare·suc-suc}
+use Prim.Native.Nat.{ℕ, zero, suc, _<_, _≤_, zero-le, suc-le-suc, compare·suc-suc}
 use mathlib.Core.Path.{_≡_, refl, sym, ap, _∙_}
 use mathlib.Core.Bool.{Bool, true, false, cond}
 use mathlib.Core.List.{List, [], _∷_, _++_}
-use native.Mathlib.Numerals.{add-one}
 use native.Mathlib.Nat.{le-of-suc-le-suc, not-suc-le-zero}
 use native.Mathlib.Omega.{arith}
 use borrow.Author.Tests.{lt-ltb}
 use lib.Dec.{ltb}
 use lib.ListN.{length, drop, getD, set, length-set}
-use lib.Seq.{drop-cons, set-append-left}
+use lib.Seq.{set-append-left}
 use Rattle.lists.specs.Lists.{over, firstIndex, any, changeFirst, removeFirst, removeAt}
 
 module _ {A : Type 0} where

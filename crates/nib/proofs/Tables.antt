@@ -1,16 +1,12 @@
 -- Laws of a table as a list of entries. Assumes nothing.
-use Prim.Native.Nat.{ℕ, _<_, _≤_, _+_}
-use mathlib.Core.Path.{_≡_, sym, _∙_}
+use Prim.Native.Nat.{_<_}
+use mathlib.Core.Path.{_≡_, sym}
 use mathlib.Core.List.{List, [], _∷_, _++_}
-use native.Mathlib.Omega.{arith}
 use borrow.Author.Tests.{lt-ltb}
-use lib.ListN.{length, take, length-append, length-take, replicate}
-use lib.Seq.{take-at}
-use Rattle.lists.specs.Lists.{over}
+use lib.ListN.{length, length-append, replicate}
 use Rattle.lists.proofs.Lists.{over-snoc, over-take}
 use Rattle.nib.specs.Neighbors.{entriesOf, tableOf, pushed, blank}
 use Rattle.nib.specs.declared.NwkNeighbor.{NwkNeighbor}
-use Rattle.nib.specs.declared.NeighborTable.{NeighborTable}
 
 -- a table made of a list has that list's entries
 pub entries-of : (l : List NwkNeighbor) → entriesOf (tableOf l) ≡ l

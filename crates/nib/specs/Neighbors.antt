@@ -1,7 +1,7 @@
 -- The neighbour table as a list of entries (01, "Neighbour entry"; Zigbee Tables 3-63 and 3-64).
 use Prim.Native.Nat.{ℕ, _+_}
-use mathlib.Core.Bool.{Bool, true, false, cond}
-use mathlib.Core.List.{List, [], _∷_, _++_}
+use mathlib.Core.Bool.{false, cond}
+use mathlib.Core.List.{List}
 use lib.Dec.{ltb}
 use lib.ListN.{length, take, getD, set, replicate}
 use Rattle.lists.specs.Lists.{over}

@@ -5,7 +5,6 @@ use Rattle.nib.specs.declared.NwkNeighbor.{NwkNeighbor}
 use Rattle.nib.specs.declared.ShortAddress.{ShortAddress}
 use Rattle.nib.specs.declared.IeeeAddress.{IeeeAddress}
 use Rattle.nib.specs.declared.ExtendedPanId.{ExtendedPanId}
-use Rattle.nib.specs.declared.PanId.{PanId}
 use Rattle.nib.specs.declared.CapabilityInformation.{CapabilityInformation}
 use Rattle.parent_timer.specs.declared.ParentTimer.{ParentTimer}
 use Rattle.supervision.specs.declared.TransmitFailures.{TransmitFailures}

@@ -1,6 +1,6 @@
 -- `NeighborTable::get` meets its contract. Assumes nothing.
 use Prim.Native.Nat.{_<_}
-use mathlib.Core.Path.{_≡_, sym, ap, _∙_}
+use mathlib.Core.Path.{_≡_}
 use native.Mathlib.Omega.{arith}
 use borrow.Author.Needs.{needs}
 use borrow.Author.Tests.{lt-ltb, le-ltb}
@@ -8,7 +8,6 @@ use lib.ListN.{length, length-take}
 use lib.Seq.{getD-take}
 use Rattle.lists.proofs.Lists.{length-mapped}
 use Rattle.nib.specs.Neighbors.{blank, entriesOf}
-use Rattle.nib.specs.declared.Neighbor.the-variants.{Entry}
 use Rattle.nib.proofs.NeighborTable.get.Statement.{statement}
 use Rattle.nib.proofs.NeighborTable.get.Tie as tie
 

@@ -1,8 +1,5 @@
 -- `NeighborTable::new` meets its contract. Assumes nothing.
-use mathlib.Core.Path.{ap}
 use borrow.Author.Needs.{needs}
-use lib.ListN.{replicate}
-use Rattle.nib.specs.declared.NwkNeighbor.{NwkNeighbor}
 use Rattle.nib.specs.declared.NeighborTable.{NeighborTable}
 use Rattle.nib.proofs.NeighborTable.new.Statement.{statement}
 use Rattle.nib.proofs.NeighborTable.new.Tie as tie
