@@ -7,17 +7,9 @@ use native.Mathlib.Omega.{arith}
 use lib.ListN.{length, take, getD, set, length-append, length-map}
 use lib.Seq.{length-take-le}
 use Rattle.lists.specs.Lists.{over, select}
-use Rattle.lists.proofs.Lists.{take-next, over-snoc}
+use Rattle.lists.proofs.Lists.{take-next, over-snoc, select-append}
 
 module _ {A : Type 0} where
-  pub select-append : (p : A → Bool) (l k : List A) → select p (l ++ k) ≡ select p l ++ select p k
-  select-append p [] k = refl
-  select-append p (x ∷ xs) k = go (p x) (select-append p xs k)
-    where
-      go : (b : Bool) → select p (xs ++ k) ≡ select p xs ++ select p k → cond b (x ∷ select p (xs ++ k)) (select p (xs ++ k)) ≡ cond b (x ∷ select p xs) (select p xs) ++ select p k
-      go true h = ap (λ (z : List A). x ∷ z) h
-      go false h = h
-
   -- how many pass a test, with one element more
   pub select-next : (p : A → Bool) (l : List A) (i : ℕ) (d : A) → i < length l → length (select p (take (i + 1) l)) ≡ length (select p (take i l)) + cond (p (getD l i d)) 1 0
   select-next p l i d h = rw (take-next l i d h, select-append, length-append) (ap (λ (n : ℕ). length (select p (take i l)) + n) (one (p (getD l i d))))

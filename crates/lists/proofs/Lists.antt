@@ -21,13 +21,16 @@ module _ {A : Type 0} where
   foldl-snoc f b [] x = refl
   foldl-snoc f b (y ∷ ys) x = foldl-snoc f (f b y) ys x
 
-  pub select-snoc : (p : A → Bool) (l : List A) (x : A) → select p (l ++ (x ∷ [])) ≡ select p l ++ cond (p x) (x ∷ []) []
-  select-snoc p [] x = refl
-  select-snoc p (y ∷ ys) x = go (p y) (select-snoc p ys x)
+  pub select-append : (p : A → Bool) (l k : List A) → select p (l ++ k) ≡ select p l ++ select p k
+  select-append p [] k = refl
+  select-append p (x ∷ xs) k = go (p x) (select-append p xs k)
     where
-      go : (b : Bool) → select p (ys ++ (x ∷ [])) ≡ select p ys ++ cond (p x) (x ∷ []) [] → cond b (y ∷ select p (ys ++ (x ∷ []))) (select p (ys ++ (x ∷ []))) ≡ cond b (y ∷ select p ys) (select p ys) ++ cond (p x) (x ∷ []) []
-      go true h = ap (λ (z : List A). y ∷ z) h
+      go : (b : Bool) → select p (xs ++ k) ≡ select p xs ++ select p k → cond b (x ∷ select p (xs ++ k)) (select p (xs ++ k)) ≡ cond b (x ∷ select p xs) (select p xs) ++ select p k
+      go true h = ap (λ (z : List A). x ∷ z) h
       go false h = h
+
+  pub select-snoc : (p : A → Bool) (l : List A) (x : A) → select p (l ++ (x ∷ [])) ≡ select p l ++ cond (p x) (x ∷ []) []
+  select-snoc p l x = select-append p l (x ∷ [])
 
   pub select-long : (p : A → Bool) (l : List A) → length (select p l) ≤ length l
   select-long p [] = zero-le
