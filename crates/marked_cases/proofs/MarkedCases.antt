@@ -9,6 +9,7 @@ use Rattle.candidates.specs.UpdateIds.{newest, newer}
 use Rattle.candidates.specs.Candidates.{candidates, eligible, depthAt}
 use Rattle.parent_timer.specs.Timer.{ticked}
 use Rattle.supervision.specs.Timeouts.{timeoutSeconds, negotiatedTimeoutMs, refreshed}
+use Rattle.received.specs.Received.{acceptsLeave}
 use Rattle.marked_cases.specs.MarkedCases.{answer, Case, marked, Hold, yard}
 
 abbrev same : List ℕ → List ℕ → Bool
@@ -37,9 +38,9 @@ hold (c ∷ cs) h =
     let s = split (same (answer (c .asked)) (c .expected)) (right cs) h in
     (same-eq (answer (c .asked)) (c .expected) (s .0), hold cs (s .1))
 
--- P1 to P11
+-- P1 to P12
 pub marked-hold : Hold marked
-unfolding linkCost newer newest candidates eligible depthAt ticked timeoutSeconds negotiatedTimeoutMs refreshed
+unfolding linkCost newer newest candidates eligible depthAt ticked timeoutSeconds negotiatedTimeoutMs refreshed acceptsLeave
 marked-hold = hold marked tt
 
 -- the printed example: index 3, then index 1

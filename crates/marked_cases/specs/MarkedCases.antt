@@ -1,10 +1,11 @@
--- The marked cases P1 to P11 as one table of questions and answers (01, "Marked cases").
+-- The marked cases P1 to P12 as one table of questions and answers (01, "Marked cases").
 use Prim.Native.Nat.{ℕ}
 use mathlib.Core.Path.{_≡_}
 use mathlib.Core.Bool.{Bool, true, false, cond}
 use mathlib.Core.List.{List, [], _∷_, map}
 use Rattle.lists.specs.Lists.{All}
 use Rattle.nib.specs.Identifiers.{linkCost}
+use Rattle.nib.specs.declared.Nib.{Nib}
 use Rattle.nib.specs.declared.NwkNeighbor.{NwkNeighbor}
 use Rattle.nib.specs.declared.DeviceType.the-variants.{Router}
 use Rattle.candidates.specs.UpdateIds.{newest}
@@ -14,6 +15,7 @@ use Rattle.candidates.specs.declared.Newest.the-variants.{Nothing, Id}
 use Rattle.parent_timer.specs.Timer.{ticked}
 use Rattle.parent_timer.specs.declared.Ticked.{Ticked}
 use Rattle.supervision.specs.Timeouts.{refreshed}
+use Rattle.received.specs.Received.{acceptsLeave}
 
 -- an entry by the fields that the choice reads: extended PAN id, depth, permit, router and end device capacity, LQI, update id
 abbrev pub entry : ℕ → ℕ → Bool → Bool → Bool → ℕ → ℕ → NwkNeighbor
@@ -56,6 +58,8 @@ pub data Question : Type 0 where
   timerOf : ℕ → Question
   -- what a tick leaves of a timer, and whether it expired: milliseconds left, milliseconds elapsed
   tickOf : ℕ → ℕ → Question
+  -- whether a leave request is accepted: own address, destination, router, nwkLeaveRequestAllowed, and whether the parent asks
+  leaveOf : ℕ → ℕ → Bool → Bool → Bool → Question
 
 abbrev pub found : Newest → List ℕ
 found Nothing = []
@@ -64,6 +68,23 @@ found (Id id) = id ∷ []
 abbrev pub left : Ticked → List ℕ
 left t = t .timer .«remaining_ms» ∷ cond (t .expired) 1 0 ∷ []
 
+-- a node's attributes, by those that a leave request reads
+abbrev pub nodeAt : ℕ → Bool → Bool → Nib
+nodeAt address router allowed =
+    record {
+      «network_address» = record { 0 = address };
+      «ieee_address» = record { 0 = 1 };
+      «extended_panid» = record { 0 = 1 };
+      panid = record { 0 = 1 };
+      «update_id» = 0;
+      «capability_information» = record { 0 = cond router 2 0 };
+      «stack_profile» = 2;
+      «parent_information» = 0;
+      «end_device_timeout» = 0xff;
+      «end_device_timeout_default» = 8;
+      «leave_request_allowed» = allowed;
+    }
+
 -- what the definitions answer
 abbrev pub answer : Question → List ℕ
 answer (newestOf ids) = found (newest true 1 (map heard ids))
@@ -71,6 +92,8 @@ answer (costOf lqi) = linkCost lqi ∷ []
 answer (candidatesOfNone profile router permit n) = candidates profile router permit n []
 answer (timerOf index) = refreshed index .«remaining_ms» ∷ []
 answer (tickOf ms elapsed) = left (ticked (record { «remaining_ms» = ms }) elapsed)
+answer (leaveOf address destination router allowed byParent) =
+    cond (acceptsLeave (nodeAt address router allowed) (record { 0 = destination }) byParent) 1 0 ∷ []
 
 pub record Case : Type 0 where
   pub asked : Question
@@ -102,6 +125,19 @@ marked =
     ∷ case (tickOf 0 0) (0 ∷ 0 ∷ [])
     ∷ case (tickOf 0 4294967295) (0 ∷ 0 ∷ [])
     ∷ case (tickOf 10000 9999) (1 ∷ 0 ∷ [])
+    -- P12: at 0x1234 a request to 0xfff8 is dropped, whatever the role
+    ∷ case (leaveOf 0x1234 0xfff8 true true true) (0 ∷ [])
+    ∷ case (leaveOf 0x1234 0xfff8 false true true) (0 ∷ [])
+    -- and one to 0xfff7 goes on to the role tests
+    ∷ case (leaveOf 0x1234 0xfff7 true true false) (1 ∷ [])
+    ∷ case (leaveOf 0x1234 0xfff7 true false true) (0 ∷ [])
+    ∷ case (leaveOf 0x1234 0xfff7 false false true) (1 ∷ [])
+    ∷ case (leaveOf 0x1234 0xfff7 false true false) (0 ∷ [])
+    -- at 0x0000 both are dropped
+    ∷ case (leaveOf 0x0000 0xfff8 true true true) (0 ∷ [])
+    ∷ case (leaveOf 0x0000 0xfff8 false true true) (0 ∷ [])
+    ∷ case (leaveOf 0x0000 0xfff7 true true true) (0 ∷ [])
+    ∷ case (leaveOf 0x0000 0xfff7 false true true) (0 ∷ [])
     ∷ []
 
 -- the common statement: each case's answer is the expected one

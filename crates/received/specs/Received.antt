@@ -1,0 +1,142 @@
+-- What a received frame does (01, "Received frame"; Zigbee 3.4 and 3.6.1.10). The parent is the first entry with relationship PARENT, its IEEE address
+-- the one known of its short address; `all` is the IEEE address known of the broadcast address 0xffff.
+use Prim.Native.Nat.{ℕ}
+use mathlib.Core.Bool.{Bool, true, false, cond, not, _&&_}
+use mathlib.Core.List.{List}
+use lib.Dec.{eqb, ltb}
+use Rattle.nib.specs.Identifiers.{bit}
+use Rattle.nib.specs.declared.Nib.{Nib}
+use Rattle.nib.specs.declared.NwkNeighbor.{NwkNeighbor}
+use Rattle.nib.specs.declared.Neighbor.{Neighbor}
+use Rattle.nib.specs.declared.Neighbor.the-variants.{Absent, Entry}
+use Rattle.nib.specs.declared.ShortAddress.{ShortAddress}
+use Rattle.nib.specs.declared.OptionalIeee.{OptionalIeee}
+use Rattle.nib.specs.declared.OptionalIeee.the-variants.{NoIeee, Ieee}
+use Rattle.neighbor_table.specs.NeighborTable.{learnt, knownIeee}
+use Rattle.management.specs.Signals.{withRejoinResponse, withTimeoutResponse, withLeaveIndication}
+use Rattle.management.specs.declared.RejoinResponse.{RejoinResponse}
+use Rattle.management.specs.declared.EndDeviceTimeoutResponse.{EndDeviceTimeoutResponse}
+use Rattle.management.specs.declared.RejoinResponseSlot.the-variants.{HasRejoinResponse}
+use Rattle.management.specs.declared.TimeoutResponseSlot.the-variants.{HasTimeoutResponse}
+use Rattle.management.specs.declared.LeaveIndicationSlot.the-variants.{HasLeaveIndication}
+use Rattle.management.specs.declared.PollAnswer.{PollAnswer}
+use Rattle.management.specs.declared.PollAnswer.the-variants.{PollData, PollNothing, PollUndecodable}
+use Rattle.frame.specs.declared.Source.{Source}
+use Rattle.frame.specs.declared.LeaveOptions.{LeaveOptions}
+use Rattle.frame.specs.declared.ReceivedFrame.{ReceivedFrame}
+use Rattle.frame.specs.declared.ReceivedFrame.the-variants.{Undecodable, Data, RejoinResponseCommand, TimeoutResponseCommand, LeaveCommand, OtherCommand, OtherFrame}
+use Rattle.frame.specs.declared.SentFrame.the-variants.{Leave}
+use Rattle.nlme.specs.Fields.{withNib, withPending, withSignals, withAddress, withExtendedPanId, withNegotiated, withNetworkLeft}
+use Rattle.nlme.specs.Nlme.{refreshed, commandHeader, seqUsed, transmission, parentAddress}
+use Rattle.nlme.specs.declared.Nlme.{Nlme}
+use Rattle.nlme.specs.declared.Transmission.{Transmission}
+use Rattle.received.specs.declared.TableChange.{TableChange}
+use Rattle.received.specs.declared.TableChange.the-variants.{KeepTable, RemoveNeighbor}
+use Rattle.received.specs.declared.Then.{Then}
+use Rattle.received.specs.declared.Then.the-variants.{Over, Announce}
+use Rattle.received.specs.declared.Handled.{Handled}
+
+-- "Data and commands that carry the sender's IEEE address first teach it to the first entry with its short address"
+unfoldable pub taughtBy : OptionalIeee → ShortAddress → List NwkNeighbor → List NwkNeighbor
+taughtBy NoIeee a es = es
+taughtBy (Ieee x) a es = learnt (a .0) x es
+
+unfoldable pub taught : ReceivedFrame → List NwkNeighbor → List NwkNeighbor
+taught Undecodable es = es
+taught (Data s) es = taughtBy (s .ieee) (s .address) es
+taught (RejoinResponseCommand s r) es = taughtBy (s .ieee) (s .address) es
+taught (TimeoutResponseCommand s r) es = taughtBy (s .ieee) (s .address) es
+taught (LeaveCommand s d o) es = taughtBy (s .ieee) (s .address) es
+taught (OtherCommand s) es = taughtBy (s .ieee) (s .address) es
+taught OtherFrame es = es
+
+-- "A rejoin response of status 0 sets the network address"; every one fills its slot (Zigbee 3.4.7.3)
+abbrev pub rejoinSignalled : RejoinResponse → Nlme → Nlme
+rejoinSignalled r n = withSignals (withRejoinResponse (HasRejoinResponse r) (n .signals)) n
+
+unfoldable pub rejoinResponded : RejoinResponse → Nlme → Nlme
+rejoinResponded r n =
+    cond (eqb (r .status) 0) (rejoinSignalled r (withNib (withAddress (r .«network_address») (n .nib)) n)) (rejoinSignalled r n)
+
+-- "A timeout response uses up the pending index; with status 0 and a pending index it stores both and restarts the timer"; every one fills its slot (Zigbee 3.6.10.2)
+abbrev pub timeoutSignalled : EndDeviceTimeoutResponse → Nlme → Nlme
+timeoutSignalled r n = withSignals (withTimeoutResponse (HasTimeoutResponse r) (n .signals)) (withPending 0xff n)
+
+unfoldable pub stored : ℕ → Nlme → Nlme
+stored information n = refreshed (withNib (withNegotiated information (n .«pending_timeout_request») (n .nib)) n)
+
+unfoldable pub timeoutResponded : EndDeviceTimeoutResponse → Nlme → Nlme
+timeoutResponded r n =
+    cond (eqb (r .status) 0 && not (eqb (n .«pending_timeout_request») 0xff))
+    (timeoutSignalled r (stored (r .«parent_information») n))
+    (timeoutSignalled r n)
+
+-- whether a frame is the parent's
+abbrev pub fromParent : Neighbor → ShortAddress → Bool
+fromParent Absent a = false
+fromParent (Entry p) a = eqb (p .«network_address» .0) (a .0)
+
+-- the leave indication; no device address means this device (Zigbee 3.2.2.19)
+abbrev pub leaveIndicated : OptionalIeee → Bool → Nlme → Nlme
+leaveIndicated device rejoin n =
+    withSignals (withLeaveIndication (HasLeaveIndication (record { «device_address» = device; rejoin = rejoin })) (n .signals)) n
+
+-- "Leave without the request bit": "From the parent it zeroes the extended PAN id and indicates no device address; from another it indicates the sender's IEEE address"
+unfoldable pub neighborLeft : Neighbor → Source → Bool → Nlme → Nlme
+neighborLeft parent s rejoin n =
+    cond (fromParent parent (s .address))
+    (leaveIndicated NoIeee rejoin (withNib (withExtendedPanId (record { 0 = 0 }) (n .nib)) n))
+    (leaveIndicated (s .ieee) rejoin n)
+
+-- `accepts_leave_request` (Zigbee 3.6.1.10.3.1): not the coordinator, no broadcast (0xfff8 and above); a router as nwkLeaveRequestAllowed says, an end device from its parent
+unfoldable pub acceptsLeave : Nib → ShortAddress → Bool → Bool
+acceptsLeave nib destination byParent =
+    not (eqb (nib .«network_address» .0) 0)
+    && ltb (destination .0) 0xfff8
+    && cond (bit 1 (nib .«capability_information» .0)) (nib .«leave_request_allowed») byParent
+
+-- `announce_leave` (Zigbee 3.6.1.10.1): a router broadcasts, an end device tells its parent with the children bit 0
+abbrev pub leaveTo : Nlme → ShortAddress → OptionalIeee → Bool → Bool → Transmission
+leaveTo n to ieee rejoin children = transmission n to (Leave (commandHeader n to ieee true) rejoin children)
+
+unfoldable pub announcement : Nlme → Neighbor → OptionalIeee → LeaveOptions → Transmission
+announcement n parent all o =
+    cond (bit 1 (n .nib .«capability_information» .0))
+    (leaveTo n (record { 0 = 0xffff }) all (o .rejoin) (o .«remove_children»))
+    (leaveTo n (parentAddress parent) (knownIeee parent) (o .rejoin) false)
+
+-- a frame that is dealt with: the table as it is, and what a single poll or receive answers
+abbrev pub dealtWith : Nlme → PollAnswer → Handled
+dealtWith n a = record { nlme = n; change = KeepTable; then = Over a }
+
+-- a leave command: "Leave without the request bit removes every entry of that address"; an accepted request is announced, which uses a sequence number
+unfoldable pub leaveRequested : Neighbor → OptionalIeee → ShortAddress → ShortAddress → LeaveOptions → Nlme → Handled
+leaveRequested parent all s d o n =
+    cond (acceptsLeave (n .nib) d (fromParent parent s))
+    (record { nlme = seqUsed n; change = KeepTable; then = Announce (announcement n parent all o) (o .rejoin) })
+    (dealtWith n PollNothing)
+
+unfoldable pub leaveHandled : Neighbor → OptionalIeee → Source → ShortAddress → LeaveOptions → Nlme → Handled
+leaveHandled parent all s d o n =
+    cond (o .request)
+    (leaveRequested parent all (s .address) d o n)
+    (record { nlme = neighborLeft parent s (o .rejoin) n; change = RemoveNeighbor (s .address); then = Over PollNothing })
+
+-- `process_received_nwk_frame`, after the teaching
+unfoldable pub handled : Neighbor → OptionalIeee → ReceivedFrame → Nlme → Handled
+handled parent all Undecodable n = dealtWith n PollUndecodable
+handled parent all (Data s) n = dealtWith n PollData
+handled parent all (RejoinResponseCommand s r) n = dealtWith (rejoinResponded r n) PollNothing
+handled parent all (TimeoutResponseCommand s r) n = dealtWith (timeoutResponded r n) PollNothing
+handled parent all (LeaveCommand s d o) n = leaveHandled parent all s d o n
+handled parent all (OtherCommand s) n = dealtWith n PollNothing
+handled parent all OtherFrame n = dealtWith n PollNothing
+
+-- after the announcement, sent or not: an end device's extended PAN id is 0 (Zigbee 3.6.1.10.1), and unless the rejoin bit is set the fields of
+-- `clear_nib_on_leave` are reset (Zigbee 3.6.1.10.4), so the timer runs on. "It indicates no device address, announced or not."
+unfoldable pub leftFor : Bool → Nib → Nib
+leftFor true nib = cond (bit 1 (nib .«capability_information» .0)) nib (withExtendedPanId (record { 0 = 0 }) nib)
+leftFor false nib = withNetworkLeft nib
+
+unfoldable pub leaveAnnounced : Bool → Nlme → Nlme
+leaveAnnounced rejoin n = leaveIndicated NoIeee rejoin (withNib (leftFor rejoin (n .nib)) n)
