@@ -16,7 +16,7 @@ use Rattle.candidates.specs.Candidates.{capacity, lowCost, isId, eligibl
 use Rattle.candidates.specs.declared.Newest.{Newest}
 
 -- an order by a key of f's value goes through f
-map-ordered : {A B : Type 0} (f : A → B) (k : B → ℕ) (profile : ℕ) (l : List A) → map f (ordered profile (λ y. k (f y)) l) ≡ ordered profile k (map f l)
+pub map-ordered : {A B : Type 0} (f : A → B) (k : B → ℕ) (profile : ℕ) (l : List A) → map f (ordered profile (λ y. k (f y)) l) ≡ ordered profile k (map f l)
 map-ordered {A} {B} f k profile l = go (eqb profile 1)
   where
     go : (b : Bool) → map f (cond b (sortBy (λ y. k (f y)) l) l) ≡ cond b (sortBy k (map f l)) (map f l)
@@ -29,11 +29,11 @@ unfolding newest
 same-newest permit n es es′ h = rw h
 
 -- the condition on an entry of a network, at that network's newest update id
-abbrev fit : Bool → Bool → Newest → NwkNeighbor → Bool
+abbrev pub fit : Bool → Bool → Newest → NwkNeighbor → Bool
 fit router permit best e = permits permit e && capacity router e && lowCost e && potential e && isId (e .«update_id») best
 
 module _ (router permit : Bool) (n : ℕ) (some : n ≡ 0 → ⊥) (es : List NwkNeighbor) where
-  eligible-own : (e : NwkNeighbor) → eligible router permit n es e ≡ ofNetwork n e && fit router permit (newest permit n es) e
+  pub eligible-own : (e : NwkNeighbor) → eligible router permit n es e ≡ ofNetwork n e && fit router permit (newest permit n es) e
   unfolding eligible
   eligible-own e = go (ofNetwork n e) refl
     where

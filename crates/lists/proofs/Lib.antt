@@ -6,3 +6,4 @@ pub mod Pairs
 pub mod Collect
 pub mod Order
 pub mod Indexes
+pub mod Ranks

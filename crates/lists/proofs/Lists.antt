@@ -45,6 +45,12 @@ module _ {A : Type 0} where
   All-getD P (x ∷ xs) zero d a h = a .0
   All-getD P (x ∷ xs) (suc i) d a h = All-getD P xs i d (a .1) (le-of-suc-le-suc h)
 
+  -- within a list the value for what is past it plays no part
+  pub getD-any : (l : List A) (i : ℕ) (d e : A) → i < length l → getD l i d ≡ getD l i e
+  getD-any [] i d e h = absurd (not-suc-le-zero h)
+  getD-any (x ∷ xs) zero d e h = refl
+  getD-any (x ∷ xs) (suc i) d e h = getD-any xs i d e (le-of-suc-le-suc h)
+
   -- the place of a key, from what is left of the list
   pub place-here : (k : A → ℕ) (n : ℕ) (l : List A) (i : ℕ) (d : A) → i < length l → n < k (getD l i d) → placeBy k n (drop i l) ≡ 0
   place-here k n l i d h lt = rw (drop-cons l i d h, lt-ltb _ _ lt)

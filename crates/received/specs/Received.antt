@@ -30,9 +30,7 @@ use Rattle.nlme.specs.Fields.{withNib, withPending, withSignals, withAddress, w
 use Rattle.nlme.specs.Nlme.{refreshed, commandHeader, seqUsed, transmission, parentAddress}
 use Rattle.nlme.specs.declared.Nlme.{Nlme}
 use Rattle.nlme.specs.declared.Transmission.{Transmission}
-use Rattle.received.specs.declared.TableChange.{TableChange}
 use Rattle.received.specs.declared.TableChange.the-variants.{KeepTable, RemoveNeighbor}
-use Rattle.received.specs.declared.Then.{Then}
 use Rattle.received.specs.declared.Then.the-variants.{Over, Announce}
 use Rattle.received.specs.declared.Handled.{Handled}
 

@@ -2,7 +2,6 @@
 ghost use mathlib.Core.Path.{_≡_};
 ghost use Rattle.neighbor_table.specs.NeighborTable.{onEntries};
 ghost use Rattle.received.specs.Received.{taughtBy, taught, rejoinResponded, timeoutSignalled, stored, timeoutResponded, fromParent, leaveIndicated, neighborLeft, acceptsLeave, leaveTo, announcement, dealtWith, leaveRequested, leaveHandled, handled, leftFor, leaveAnnounced};
-use frame::CommandHeader;
 use frame::LeaveOptions;
 use frame::ReceivedFrame;
 use frame::SentFrame;
@@ -14,7 +13,6 @@ use management::PollAnswer;
 use management::RejoinResponse;
 use management::RejoinResponseSlot;
 use management::TimeoutResponseSlot;
-use nib::CapabilityInformation;
 use nib::ExtendedPanId;
 use nib::Neighbor;
 use nib::NeighborTable;

@@ -1,0 +1,31 @@
+-- `joined_by` meets its contract. Assumes nothing.
+use Rattle.join.specs.Join.{joinedBy}
+use borrow.Author.Needs.{needs}
+use Rattle.join.proofs.joined_by.Statement.{statement}
+use Rattle.join.proofs.joined_by.Tie as tie
+
+joined-confirm-requires : tie.Need-joined-confirm-requires
+joined-confirm-requires c κs = search needs
+
+joined-control-requires : tie.Need-joined-control-requires
+joined-control-requires c κs = search needs
+
+join-over-requires : tie.Need-join-over-requires
+join-over-requires c κs = search needs
+
+moving-requires : tie.Need-moving-requires
+moving-requires c κs = search needs
+
+returns : tie.Need-returns
+unfolding joinedBy
+returns c = rw (c .moving .ensures, c .before .join-over .ensures, c .before .before .joined-control .ensures, c .before .before .before .joined-confirm .ensures)
+
+pub joined-by-spec : {M : Type 1} → statement M
+joined-by-spec =
+    tie.close
+    (tie.spec
+    joined-confirm-requires
+    joined-control-requires
+    join-over-requires
+    moving-requires
+    returns)

@@ -1,0 +1,117 @@
+-- The association (01, "Join request and confirm"; Zigbee 3.2.2.13 and 3.6.1.4.1.1). The candidate being tried and the next one are entries, seen with the IEEE
+-- address known of their short address; `Absent` where there is none.
+use Prim.Native.Nat.{ℕ}
+use mathlib.Core.Bool.{Bool, true, false, cond}
+use lib.Dec.{eqb}
+use Rattle.nib.specs.declared.NwkNeighbor.{NwkNeighbor}
+use Rattle.nib.specs.declared.Neighbor.{Neighbor}
+use Rattle.nib.specs.declared.Neighbor.the-variants.{Absent, Entry}
+use Rattle.nib.specs.declared.CapabilityInformation.{CapabilityInformation}
+use Rattle.mlme.specs.Mlme.{macCapabilities}
+use Rattle.management.specs.declared.NlmeJoinStatus.{NlmeJoinStatus}
+use Rattle.management.specs.declared.NlmeJoinStatus.the-variants.{Success, NotPermitted, PanAtCapacity, PanAccessDenied, MacError}
+use Rattle.management.specs.declared.NlmeJoinConfirm.{NlmeJoinConfirm}
+use Rattle.nlme.specs.Fields.{withNib, withCapabilities, withJoined}
+use Rattle.nlme.specs.Nlme.{negotiationReset}
+use Rattle.operation.specs.Operation.{withNlme, inPhase, ending}
+use Rattle.operation.specs.declared.Phase.the-variants.{Idle, Association}
+use Rattle.operation.specs.declared.Control.{Control}
+use Rattle.operation.specs.declared.RadioRequest.the-variants.{Associate}
+use Rattle.operation.specs.declared.Note.the-variants.{NoNote}
+use Rattle.operation.specs.declared.Step.the-variants.{Ask, Joined}
+use Rattle.operation.specs.declared.Move.the-variants.{Stay, TakeNext, JoinTried}
+use Rattle.operation.specs.declared.Decision.{Decision}
+use Rattle.join.specs.declared.AssociationResponse.{AssociationResponse}
+use Rattle.join.specs.declared.AssociationOutcome.{AssociationOutcome}
+use Rattle.join.specs.declared.AssociationOutcome.the-variants.{Associated, AssociationFailed}
+
+-- "A failed confirm has address 0xffff and zeros" (Zigbee 3.2.2.13.3)
+abbrev pub failure : NlmeJoinStatus → NlmeJoinConfirm
+failure st = record { status = st; «network_address» = record { 0 = 0xffff }; «extended_pan_id» = record { 0 = 0 }; channel = 0 }
+
+-- the join or rejoin ends without success
+abbrev pub failing : NlmeJoinStatus → Control → Decision
+failing st c = ending (Joined (failure st)) c
+
+-- the request to associate with an entry
+unfoldable pub associating : Bool → NwkNeighbor → Control → Decision
+associating clear e c =
+    record {
+      control = inPhase Association c;
+      «clear_potential_parent» = clear;
+      candidate = TakeNext;
+      note = NoNote;
+      step =
+          Ask
+          (Associate
+          (record {
+            channel = e .«logical_channel»;
+            «pan_id» = e .«pan_id»;
+            address = e .«network_address»;
+            capabilities = macCapabilities (c .nlme .nib .«capability_information» .0);
+          }));
+      «polls_used» = 0;
+    }
+
+-- the start: parent information, timeout index and timer are reset; "No candidate: NotPermitted. Then capabilities are stored and candidates tried in order"
+abbrev pub resetNegotiation : Control → Control
+resetNegotiation c = withNlme (negotiationReset (c .nlme)) c
+
+abbrev pub storeCapabilities : CapabilityInformation → Control → Control
+storeCapabilities i c = withNlme (withNib (withCapabilities i (c .nlme .nib)) (c .nlme)) c
+
+unfoldable pub joinStarted : CapabilityInformation → Neighbor → Control → Decision
+joinStarted i Absent c = failing NotPermitted (resetNegotiation c)
+joinStarted i (Entry e) c = associating false e (storeCapabilities i (resetNegotiation c))
+
+-- the statuses of an association or rejoin response (IEEE 802.15.4, association response): 0 success, 1 at capacity, 2 access denied; "any other, or a radio error, MacError"
+unfoldable pub statusOf : ℕ → NlmeJoinStatus
+statusOf s = cond (eqb s 0) Success (cond (eqb s 1) PanAtCapacity (cond (eqb s 2) PanAccessDenied MacError))
+
+-- "Association status 0 sets addresses, ids and PARENT"; the confirm names the candidate's network and channel
+unfoldable pub joinedBy : AssociationResponse → NwkNeighbor → Control → Decision
+joinedBy r e c =
+    record {
+      control = inPhase Idle (withNlme (withNib (withJoined (r .«association_address») (r .«device_address») e (c .nlme .nib)) (c .nlme)) c);
+      «clear_potential_parent» = false;
+      candidate = JoinTried;
+      note = NoNote;
+      step =
+          Joined
+          (record {
+            status = Success;
+            «network_address» = r .«association_address»;
+            «extended_pan_id» = e .«extended_pan_id»;
+            channel = e .«logical_channel»;
+          });
+      «polls_used» = 0;
+    }
+
+-- a candidate has failed: the next one is tried, or "The last candidate's status stands". "Status 1 and 2 clear potential parent"
+unfoldable pub failingOn : Bool → NlmeJoinStatus → Control → Decision
+failingOn clear st c =
+    record {
+      control = inPhase Idle c;
+      «clear_potential_parent» = clear;
+      candidate = Stay;
+      note = NoNote;
+      step = Joined (failure st);
+      «polls_used» = 0;
+    }
+
+unfoldable pub candidateFailed : Bool → NlmeJoinStatus → Neighbor → Control → Decision
+candidateFailed clear st Absent c = failingOn clear st c
+candidateFailed clear st (Entry e) c = associating clear e c
+
+-- a success with no candidate being tried, which no run of calls leads to, counts as a radio error
+unfoldable pub succeeded : AssociationResponse → Neighbor → Neighbor → Control → Decision
+succeeded r Absent next c = candidateFailed false MacError next c
+succeeded r (Entry e) next c = joinedBy r e c
+
+abbrev pub clears : ℕ → Bool
+clears s = cond (eqb s 1) true (eqb s 2)
+
+unfoldable pub associated : AssociationOutcome → Neighbor → Neighbor → Control → Decision
+associated AssociationFailed tried next c = candidateFailed false MacError next c
+associated (Associated r) tried next c =
+    cond (eqb (r .status) 0) (succeeded r tried next c) (candidateFailed (clears (r .status)) (statusOf (r .status)) next c)

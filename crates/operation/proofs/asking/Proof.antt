@@ -1,0 +1,13 @@
+-- `asking` meets its contract. Assumes nothing.
+use borrow.Author.Needs.{needs}
+use Rattle.operation.proofs.asking.Statement.{statement}
+use Rattle.operation.proofs.asking.Tie as tie
+
+in-phase-requires : tie.Need-in-phase-requires
+in-phase-requires c κs = search needs
+
+returns : tie.Need-returns
+returns c = rw (c .in-phase .ensures)
+
+pub asking-spec : {M : Type 1} → statement M
+asking-spec = tie.close (tie.spec in-phase-requires returns)

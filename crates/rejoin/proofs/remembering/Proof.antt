@@ -1,0 +1,15 @@
+-- `remembering` meets its contract. Assumes nothing.
+use borrow.Author.Tests.{eq-eqb, ne-eqb}
+use lib.Dec.{eqb}
+use Rattle.lists.proofs.Conditions.{pick-true, pick-false}
+use Rattle.rejoin.proofs.remembering.Statement.{statement}
+use Rattle.rejoin.proofs.remembering.Tie as tie
+
+returns : tie.Need-returns
+returns c = pick-true (eqb (c .before .before .args .network .0) 0) _ _ (eq-eqb (c .before .before .args .network .0) 0 (c .if1 .taken))
+
+returns-2 : tie.Need-returns-2
+returns-2 c = pick-false (eqb (c .before .before .before .args .network .0) 0) _ _ (ne-eqb (c .before .before .before .args .network .0) 0 (c .before .if1 .left))
+
+pub remembering-spec : {M : Type 1} → statement M
+remembering-spec = tie.close (tie.spec returns returns-2)

@@ -1,0 +1,13 @@
+-- `response_taken` meets its contract. Assumes nothing.
+use borrow.Author.Needs.{needs}
+use Rattle.rejoin.proofs.response_taken.Statement.{statement}
+use Rattle.rejoin.proofs.response_taken.Tie as tie
+
+without-response-requires : tie.Need-without-response-requires
+without-response-requires c κs = search needs
+
+returns : tie.Need-returns
+returns c = rw (c .without-response .ensures)
+
+pub response-taken-spec : {M : Type 1} → statement M
+response-taken-spec = tie.close (tie.spec without-response-requires returns)

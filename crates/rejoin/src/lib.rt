@@ -1,0 +1,377 @@
+// The rejoin: its start, and what follows each outcome.
+ghost use mathlib.Core.Path.{_≡_};
+ghost use mathlib.Core.Bool.{false};
+ghost use Prim.Native.Nat.{_≤_};
+ghost use Rattle.nlme.specs.Nlme.{seqUsed};
+ghost use Rattle.operation.specs.Operation.{withNlme, withOperation, withPolls, awaiting, scanAsked, inPhase};
+ghost use Rattle.operation.specs.declared.Phase.the-variants.{Idle, RejoinSend};
+ghost use Rattle.rejoin.specs.Rejoin.{invalid, resolved, operationFor, noResponse, rejoinRequest, trying, scanOrEnd, tryRemembered, begun, rejoinStarted, adopting, tryCandidate, tryNext, tryFailed, remembering, rejoined, responded, polling, unanswered, pollOf, pollParent, answeredBy, pollOn, requestSent};
+use frame::SentFrame;
+use management::NlmeJoinConfirm;
+use management::NlmeJoinRequest;
+use management::NlmeJoinStatus;
+use management::RejoinResponse;
+use management::RejoinResponseSlot;
+use nib::ExtendedPanId;
+use nib::Neighbor;
+use nib::NwkNeighbor;
+use nlme::Nlme;
+use nlme::Transmission;
+use operation::Control;
+use operation::Decision;
+use operation::Move;
+use operation::Note;
+use operation::Operation;
+use operation::Phase;
+use operation::Purpose;
+use operation::RadioRequest;
+use operation::Step;
+
+// The polls of one try.
+pub const REJOIN_RESPONSE_POLL_RETRIES: u8 = 20;
+
+// Whether the request is turned down: with no address of this device's own, or for another network than the remembered one.
+fn is_invalid(request: NlmeJoinRequest, nlme: Nlme) -> bool
+    ensures { λ r. ⌜ r ≡ invalid request nlme ⌝ }
+{
+    let own = nlme.nib.network_address.0;
+    let remembered = nlme.nib.extended_panid.0;
+    let requested = request.extended_pan_id.0;
+    if own == nib::NWK_UNASSIGNED_ADDRESS {
+        return true;
+    }
+    if remembered == 0 {
+        return false;
+    }
+    if requested == 0 {
+        return false;
+    }
+    remembered != requested
+}
+
+// The network to rejoin.
+fn network_of(request: NlmeJoinRequest, nlme: Nlme) -> ExtendedPanId
+    ensures { λ r. ⌜ r ≡ resolved request nlme ⌝ }
+{
+    let requested = request.extended_pan_id;
+    if requested.0 == 0 {
+        return nlme.nib.extended_panid;
+    }
+    requested
+}
+
+fn operation_for(request: NlmeJoinRequest, nlme: Nlme) -> Operation
+    ensures { λ r. ⌜ r ≡ operationFor request nlme ⌝ }
+{
+    let extended_pan_id = network_of(request, nlme);
+    let scan = request.scan;
+    Operation {
+        phase: Phase::RejoinSend,
+        extended_pan_id,
+        security_enabled: request.security_enabled,
+        scan,
+        scanned: false,
+        channel: 0,
+        polls_left: REJOIN_RESPONSE_POLL_RETRIES,
+    }
+}
+
+// The slot of the rejoin response is emptied.
+fn without_response(nlme: Nlme) -> Nlme
+    ensures { λ r. ⌜ r ≡ noResponse nlme ⌝ }
+{
+    let left = nlme.signals
+        .with_rejoin_response(RejoinResponseSlot::NoRejoinResponse);
+    let mut out = nlme;
+    out.signals = left;
+    out
+}
+
+fn rejoin_request(parent: NwkNeighbor, control: Control) -> RadioRequest
+    ensures { λ r. ⌜ r ≡ rejoinRequest parent control ⌝ }
+{
+    let nlme = control.nlme;
+    let pan_id = nlme.nib.panid;
+    let capabilities = nlme.nib.capability_information;
+    let address = parent.network_address;
+    let ieee = neighbor_table::known_ieee(Neighbor::Entry(parent));
+    let header = nlme.command_header(address, ieee, control.operation.security_enabled);
+    let frame = SentFrame::RejoinRequest(header, capabilities);
+    RadioRequest::Transmit(Transmission {
+        pan_id,
+        address,
+        frame,
+    })
+}
+
+// Some polls are left.
+fn with_polls(polls_left: u8, control: Control) -> Control
+    ensures { λ r. ⌜ r ≡ withOperation (withPolls «polls_left» (control .operation)) control ⌝ }
+{
+    let mut next = control;
+    next.operation.polls_left = polls_left;
+    next
+}
+
+// The control part of a try that begins.
+fn ready(control: Control) -> Control
+    ensures { λ r. ⌜ r ≡ record { nlme = noResponse (seqUsed (control .nlme)); operation = withPolls 20 (awaiting RejoinSend (control .operation)) } ⌝ }
+{
+    let used = control.nlme.use_nwk_seq();
+    let emptied = without_response(used);
+    let sending = operation::in_phase(control, Phase::RejoinSend);
+    let mut next = with_polls(REJOIN_RESPONSE_POLL_RETRIES, sending);
+    next.nlme = emptied;
+    next
+}
+
+// A decision that uses up no poll.
+fn decided(control: Control, candidate: Move, note: Note, step: Step) -> Decision
+    ensures { λ r. ⌜ r ≡ record { control = control; «clear_potential_parent» = false; candidate = candidate; note = note; step = step; «polls_used» = 0 } ⌝ }
+{
+    Decision {
+        control,
+        clear_potential_parent: false,
+        candidate,
+        note,
+        step,
+        polls_used: 0,
+    }
+}
+
+// A try begins: the request is sent to an entry.
+fn trying(candidate: Move, note: Note, parent: NwkNeighbor, control: Control) -> Decision
+    ensures { λ r. ⌜ r ≡ trying candidate note parent control ⌝ }
+{
+    let request = rejoin_request(parent, control);
+    decided(ready(control), candidate, note, Step::Ask(request))
+}
+
+fn scan_asked(control: Control) -> Control
+    ensures { λ r. ⌜ r ≡ withOperation (scanAsked (control .operation)) control ⌝ }
+{
+    let mut next = control;
+    next.operation.scanned = true;
+    next
+}
+
+// After the remembered parent: the scan, or the end where no channel is asked for.
+fn scan_or_end(status: NlmeJoinStatus, control: Control) -> Decision
+    ensures { λ r. ⌜ r ≡ scanOrEnd status control ⌝ }
+{
+    let scan = control.operation.scan;
+    if scan.past <= scan.first {
+        return join::failing(status, control);
+    }
+    operation::asking(
+        Phase::RejoinScan,
+        RadioRequest::Scan(scan),
+        scan_asked(control),
+    )
+}
+
+fn try_remembered(parent: Neighbor, control: Control) -> Decision
+    ensures { λ r. ⌜ r ≡ tryRemembered parent control ⌝ }
+{
+    match parent {
+        Neighbor::Absent => scan_or_end(NlmeJoinStatus::InvalidRequest, control),
+        Neighbor::Entry(e) => trying(Move::Stay, Note::NoNote, e, control),
+    }
+}
+
+fn begun(request: NlmeJoinRequest, control: Control) -> Control
+    ensures { λ r. ⌜ r ≡ begun request control ⌝ }
+{
+    let operation = operation_for(request, control.nlme);
+    let reset = join::reset_negotiation(control);
+    let mut next = join::store_capabilities(request.capability_information, reset);
+    next.operation = operation;
+    next
+}
+
+// The start of a rejoin.
+pub fn rejoin_started(control: Control, request: NlmeJoinRequest, parent: Neighbor) -> Decision
+    ensures { λ r. ⌜ r ≡ rejoinStarted request parent control ⌝ }
+{
+    if is_invalid(request, control.nlme) {
+        return join::failing(NlmeJoinStatus::InvalidRequest, control);
+    }
+    try_remembered(parent, begun(request, control))
+}
+
+// The control part once a candidate is the parent.
+fn adopting(e: NwkNeighbor, control: Control) -> Control
+    ensures { λ r. ⌜ r ≡ adopting e control ⌝ }
+{
+    let mut nlme = control.nlme;
+    let mut nib = nlme.nib;
+    let pan_id = e.pan_id;
+    nib.panid = pan_id;
+    nib.update_id = e.update_id;
+    nlme.nib = nib;
+    let mut operation = control.operation;
+    operation.channel = e.logical_channel;
+    Control { nlme, operation }
+}
+
+fn try_candidate(e: NwkNeighbor, control: Control) -> Decision
+    ensures { λ r. ⌜ r ≡ tryCandidate e control ⌝ }
+{
+    let note = Note::SetChannel(e.logical_channel);
+    trying(Move::AdoptNext, note, e, adopting(e, control))
+}
+
+// The next candidate is tried; where there is none, the rejoin ends with a status.
+pub fn try_next(status: NlmeJoinStatus, next: Neighbor, control: Control) -> Decision
+    ensures { λ r. ⌜ r ≡ tryNext status next control ⌝ }
+{
+    match next {
+        Neighbor::Absent => join::failing(status, control),
+        Neighbor::Entry(e) => try_candidate(e, control),
+    }
+}
+
+fn try_failed(status: NlmeJoinStatus, next: Neighbor, control: Control) -> Decision
+    ensures { λ r. ⌜ r ≡ tryFailed status next control ⌝ }
+{
+    if control.operation.scanned {
+        return try_next(status, next, control);
+    }
+    scan_or_end(status, control)
+}
+
+fn remembering(network: ExtendedPanId, nlme: Nlme) -> Nlme
+    ensures { λ r. ⌜ r ≡ remembering network nlme ⌝ }
+{
+    if network.0 == 0 {
+        return nlme;
+    }
+    let mut nib = nlme.nib;
+    nib.extended_panid = network;
+    let mut out = nlme;
+    out.nib = nib;
+    out
+}
+
+// The control part of a rejoin that has succeeded.
+fn settled(control: Control) -> Control
+    ensures { λ r. ⌜ r ≡ inPhase Idle (withNlme (remembering (control .operation .«extended_pan_id») (control .nlme)) control) ⌝ }
+{
+    let nlme = remembering(control.operation.extended_pan_id, control.nlme);
+    let mut next = operation::in_phase(control, Phase::Idle);
+    next.nlme = nlme;
+    next
+}
+
+// The rejoin has succeeded.
+fn rejoined(response: RejoinResponse, control: Control) -> Decision
+    ensures { λ r. ⌜ r ≡ rejoined response control ⌝ }
+{
+    let network_address = response.network_address;
+    let extended_pan_id = control.operation.extended_pan_id;
+    let confirm = NlmeJoinConfirm {
+        status: NlmeJoinStatus::Success,
+        network_address,
+        extended_pan_id,
+        channel: control.operation.channel,
+    };
+    let note = Note::SetAddress(network_address);
+    decided(settled(control), Move::Stay, note, Step::Joined(confirm))
+}
+
+fn responded(response: RejoinResponse, next: Neighbor, control: Control) -> Decision
+    ensures { λ r. ⌜ r ≡ responded response next control ⌝ }
+{
+    if response.status == 0 {
+        return rejoined(response, control);
+    }
+    try_failed(join::join_status(response.status), next, control)
+}
+
+fn poll_of(parent: NwkNeighbor, control: Control) -> RadioRequest
+    ensures { λ r. ⌜ r ≡ pollOf parent control ⌝ }
+{
+    let pan_id = control.nlme.nib.panid;
+    let address = parent.network_address;
+    RadioRequest::Poll(pan_id, address)
+}
+
+// One poll of the parent.
+fn polling(parent: NwkNeighbor, control: Control) -> Decision
+    requires { ⌜ 1 ≤ control .operation .«polls_left» ⌝ }
+    ensures { λ r. ⌜ r ≡ polling parent control ⌝ }
+{
+    let request = poll_of(parent, control);
+    let next = with_polls(control.operation.polls_left - 1, control);
+    let phase = Phase::Reception(Purpose::RejoinResponse);
+    operation::after_polls(1, operation::asking(phase, request, next))
+}
+
+// All polls are used up.
+fn unanswered(next: Neighbor, control: Control) -> Decision
+    ensures { λ r. ⌜ r ≡ unanswered next control ⌝ }
+{
+    let left = control.operation.polls_left;
+    let over = with_polls(0, control);
+    operation::after_polls(left, try_failed(NlmeJoinStatus::MacError, next, over))
+}
+
+fn poll_parent(parent: Neighbor, next: Neighbor, control: Control) -> Decision
+    requires { ⌜ 1 ≤ control .operation .«polls_left» ⌝ }
+    ensures { λ r. ⌜ r ≡ pollParent parent next control ⌝ }
+{
+    match parent {
+        Neighbor::Absent => unanswered(next, control),
+        Neighbor::Entry(e) => polling(e, control),
+    }
+}
+
+// The response is taken.
+fn response_taken(control: Control) -> Control
+    ensures { λ r. ⌜ r ≡ withNlme (noResponse (control .nlme)) control ⌝ }
+{
+    let nlme = without_response(control.nlme);
+    let mut next = control;
+    next.nlme = nlme;
+    next
+}
+
+fn answered_by(
+    slot: RejoinResponseSlot,
+    parent: Neighbor,
+    next: Neighbor,
+    control: Control,
+) -> Decision
+    ensures { λ r. ⌜ r ≡ answeredBy slot parent next control ⌝ }
+{
+    match slot {
+        RejoinResponseSlot::HasRejoinResponse(response) => {
+            responded(response, next, response_taken(control))
+        }
+        RejoinResponseSlot::NoRejoinResponse => {
+            if control.operation.polls_left == 0 {
+                return unanswered(next, control);
+            }
+            poll_parent(parent, next, control)
+        }
+    }
+}
+
+// Within a try: its response ends it, or the parent is polled, or the polls are used up.
+pub fn poll_on(parent: Neighbor, next: Neighbor, control: Control) -> Decision
+    ensures { λ r. ⌜ r ≡ pollOn parent next control ⌝ }
+{
+    let signals = control.nlme.signals;
+    let slot = signals.rejoin_response;
+    answered_by(slot, parent, next, control)
+}
+
+// The rejoin request has been sent, or its send has failed.
+pub fn request_sent(sent: bool, parent: Neighbor, next: Neighbor, control: Control) -> Decision
+    ensures { λ r. ⌜ r ≡ requestSent sent parent next control ⌝ }
+{
+    if sent {
+        return poll_on(parent, next, control);
+    }
+    try_failed(NlmeJoinStatus::MacError, next, control)
+}

@@ -1,0 +1,158 @@
+-- A rejoin of 698 outcomes, computed. Assumes nothing.
+use Prim.Native.Nat.{ℕ, zero, suc}
+use mathlib.Core.Path.{refl}
+use mathlib.Core.Bool.{true, false}
+use mathlib.Core.List.{List, [], _∷_, _++_, flatMap}
+use lib.ListN.{replicate}
+use Rattle.nib.specs.Identifiers.{linkCost}
+use Rattle.nib.specs.Neighbors.{tableOf}
+use Rattle.nib.specs.declared.NwkNeighbor.{NwkNeighbor}
+use Rattle.nib.specs.declared.DeviceType.the-variants.{Router}
+use Rattle.nib.specs.declared.OptionalIeee.the-variants.{NoIeee}
+use Rattle.neighbor_table.specs.NeighborTable.{parentOf, onEntries, adopted, marked}
+use Rattle.mlme.specs.declared.PanDescriptor.{PanDescriptor}
+use Rattle.mlme.specs.declared.Address.the-variants.{Short}
+use Rattle.discovery.specs.Discovery.{potentialParent, entryOf, neighborBy, present, neighborsOf}
+use Rattle.candidates.specs.UpdateIds.{newer, newest}
+use Rattle.candidates.specs.Candidates.{listOf, eligible, candidates}
+use Rattle.tries.specs.Tries.{parentIn, skipped, nextIndex, nextIn, taking, adoptedNext}
+use Rattle.management.specs.declared.RejoinNetwork.the-variants.{NwkRejoin}
+use Rattle.management.specs.declared.NlmeJoinRequest.{NlmeJoinRequest}
+use Rattle.management.specs.declared.RejoinResponseSlot.the-variants.{NoRejoinResponse}
+use Rattle.management.specs.declared.TimeoutResponseSlot.the-variants.{NoTimeoutResponse}
+use Rattle.management.specs.declared.LeaveIndicationSlot.the-variants.{NoLeaveIndication}
+use Rattle.management.specs.declared.StatusIndicationSlot.the-variants.{NoStatusIndication}
+use Rattle.frame.specs.declared.ReceivedFrame.the-variants.{LeaveCommand}
+use Rattle.nlme.specs.Nlme.{negotiationReset}
+use Rattle.received.specs.Received.{taughtBy, taught, acceptsLeave, leaveRequested, leaveHandled, handled, leftFor, leaveAnnounced}
+use Rattle.operation.specs.declared.Phase.the-variants.{Idle}
+use Rattle.rejoin.specs.Rejoin.{invalid, trying, scanOrEnd, tryRemembered, rejoinStarted, tryCandidate, tryNext, tryFailed, polling, unanswered, pollParent, answeredBy, pollOn, requestSent}
+use Rattle.node.specs.Looks.{moved, barred, finish}
+use Rattle.node.specs.Refusals.{strayIndex, bad, starting, always}
+use Rattle.node.specs.Calls.{joinBy, startJoin, heard, chosen, rejoinHeard, scanFound, scanListed, scanned, continuing, changed, after, receivedFor, receivedIn, receptionOver, left, sentIn, transmissionOver}
+use Rattle.node.specs.Runs.{Call, scan, transmission, reception}
+use Rattle.node.specs.declared.State.{State}
+use Rattle.node.specs.declared.ReceptionOutcome.the-variants.{Received}
+use Rattle.rejoin_bound.specs.Bound.{BoundReached}
+
+-- a router that allows leave requests and remembers its parent
+abbrev remembered : NwkNeighbor
+remembered =
+    record {
+      «extended_address» = record { 0 = 0 };
+      «network_address» = record { 0 = 7 };
+      «device_type» = Router;
+      «rx_on_when_idle» = false;
+      «end_device_configuration» = 0;
+      relationship = 0;
+      lqi = 255;
+      «outgoing_cost» = 0;
+      age = 0;
+      «keepalive_received» = false;
+      «extended_pan_id» = record { 0 = 5 };
+      «logical_channel» = 11;
+      depth = 0;
+      «permit_joining» = false;
+      «potential_parent» = 1;
+      «router_capacity» = true;
+      «end_device_capacity» = true;
+      «update_id» = 0;
+      «pan_id» = record { 0 = 5 };
+    }
+
+abbrev lost : State
+lost =
+    record {
+      control = record {
+        nlme = record {
+          nib = record {
+            «network_address» = record { 0 = 9 };
+            «ieee_address» = record { 0 = 9 };
+            «extended_panid» = record { 0 = 5 };
+            panid = record { 0 = 5 };
+            «update_id» = 0;
+            «capability_information» = record { 0 = 2 };
+            «stack_profile» = 2;
+            «parent_information» = 0;
+            «end_device_timeout» = 0;
+            «end_device_timeout_default» = 0;
+            «leave_request_allowed» = true;
+          };
+          «nwk_seq» = 0;
+          «pending_timeout_request» = 255;
+          «parent_timer» = record { «remaining_ms» = 0 };
+          signals = record {
+            «rejoin_response» = NoRejoinResponse;
+            «timeout_response» = NoTimeoutResponse;
+            «leave_indication» = NoLeaveIndication;
+            «nwk_status_indication» = NoStatusIndication;
+          };
+          «transmit_failures» = record { pairs = replicate 16 (record { address = record { 0 = 0 }; count = 0 }); count = 0 };
+        };
+        operation = record {
+          phase = Idle;
+          «extended_pan_id» = record { 0 = 0 };
+          «security_enabled» = false;
+          scan = record { first = 0; past = 0; duration = 0 };
+          scanned = false;
+          channel = 0;
+          «polls_left» = 0;
+        };
+      };
+      table = tableOf (remembered ∷ []);
+      candidates = record { list = listOf []; taken = 0 };
+    }
+
+abbrev request : NlmeJoinRequest
+request =
+    record {
+      «extended_pan_id» = record { 0 = 5 };
+      «rejoin_network» = NwkRejoin;
+      «capability_information» = record { 0 = 2 };
+      «security_enabled» = true;
+      scan = record { first = 11; past = 12; duration = 1 };
+    }
+
+-- beacons of that network from n senders, with room for a router; a scan has 16 of them in use
+abbrev beacon : ℕ → PanDescriptor
+beacon n =
+    record {
+      channel = 11;
+      «coord_pan_id» = record { 0 = 5 };
+      «coord_address» = Short (record { 0 = 5 }) (record { 0 = n });
+      «superframe_spec» = record { «beacon_order» = 15; «superframe_order» = 15; «association_permit» = false };
+      «link_quality» = 255;
+      «zigbee_beacon» = record { «stack_profile» = record { 0 = 1024 }; «extended_pan_id» = record { 0 = 5 }; «update_id» = 0 };
+    }
+
+abbrev beacons : ℕ → List PanDescriptor
+beacons zero = []
+beacons (suc n) = beacon (suc n) ∷ beacons n
+
+abbrev heardBeacons : Call
+heardBeacons = scan (record { failed = false; list = record { descriptors = beacons 27; count = 16 } })
+
+-- each poll brings a leave request that is announced
+abbrev leaveRequest : Call
+leaveRequest =
+    reception
+    (Received
+    (LeaveCommand (record { address = record { 0 = 7 }; ieee = NoIeee }) (record { 0 = 9 }) (record { request = true; rejoin = true; «remove_children» = false })))
+
+abbrev times : ℕ → List Call → List Call
+times zero l = []
+times (suc n) l = l ++ times n l
+
+abbrev unansweredTry : List Call
+unansweredTry = transmission true ∷ times 20 (leaveRequest ∷ transmission true ∷ [])
+
+abbrev calls : List Call
+calls = unansweredTry ++ (heardBeacons ∷ times 16 unansweredTry)
+
+pub bound-reached : BoundReached
+unfolding startJoin starting bad strayIndex joinBy rejoinStarted invalid tryRemembered trying negotiationReset finish moved barred parentIn parentOf
+    transmissionOver sentIn requestSent pollOn answeredBy pollParent polling unanswered tryFailed scanOrEnd always receptionOver receivedIn
+    receivedFor taught taughtBy onEntries handled leaveHandled leaveRequested acceptsLeave changed after left leaveAnnounced leftFor continuing
+    scanned scanListed scanFound rejoinHeard heard neighborsOf neighborBy entryOf present potentialParent chosen candidates eligible linkCost newest
+    newer flatMap tryNext tryCandidate nextIn nextIndex skipped taking adoptedNext adopted marked
+bound-reached = (lost, request, calls, refl, refl)

@@ -1,0 +1,30 @@
+-- `join_tried` meets its contract. Assumes nothing.
+use Rattle.tries.specs.Tries.{triedIndex, joinedTried}
+use Rattle.nib.specs.Neighbors.{entriesOf}
+use Rattle.neighbor_table.specs.NeighborTable.{marked, allCleared}
+use Rattle.neighbor_table.proofs.Entries.{on-on, marked-long}
+use borrow.Author.Needs.{needs}
+use Rattle.tries.proofs.join_tried.Statement.{statement}
+use Rattle.tries.proofs.join_tried.Tie as tie
+
+tried-index-requires : tie.Need-tried-index-requires
+tried-index-requires c κs = search needs
+
+mark-parent-requires : tie.Need-mark-parent-requires
+mark-parent-requires c κs = search needs
+
+clear-beacon-fields-requires : tie.Need-clear-beacon-fields-requires
+clear-beacon-fields-requires c κs = search needs
+
+returns : tie.Need-returns
+unfolding joinedTried
+returns c =
+    let a = c .before .before .before .args in
+    let i = triedIndex (a .candidates) in
+    rw (c .clear-beacon-fields .ensures, c .before .mark-parent .ensures, c .before .before .tried-index .ensures)
+    (on-on (marked i) (a .table) (marked-long i (entriesOf (a .table))) allCleared)
+
+pub join-tried-spec : {M : Type 1} → statement M
+join-tried-spec =
+    tie.close
+    (tie.spec tried-index-requires mark-parent-requires clear-beacon-fields-requires returns)

@@ -1,0 +1,24 @@
+-- `next_index` meets its contract. Assumes nothing.
+use mathlib.Core.Path.{sym}
+use lib.Seq.{getD-drop}
+use Rattle.candidates.specs.Candidates.{itemsOf}
+use Rattle.tries.specs.Tries.{skipped, nextIndex}
+use borrow.Author.Needs.{needs}
+use Rattle.tries.proofs.next_index.Statement.{statement}
+use Rattle.tries.proofs.next_index.Tie as tie
+
+next-place-requires : tie.Need-next-place-requires
+next-place-requires c κs = search needs
+
+index-at-requires : tie.Need-index-at-requires
+index-at-requires c κs = search needs
+
+returns : tie.Need-returns
+unfolding nextIndex
+returns c =
+    let a = c .before .before .args in
+    rw (c .index-at .ensures, c .before .next-place .ensures)
+    (sym (getD-drop (a .candidates .taken) (itemsOf (a .candidates .list)) (skipped (a .count) (a .candidates)) 255))
+
+pub next-index-spec : {M : Type 1} → statement M
+next-index-spec = tie.close (tie.spec next-place-requires index-at-requires returns)

@@ -1,0 +1,42 @@
+-- `take_next` meets its contract. Assumes nothing.
+use Prim.Native.Nat.{ℕ, _+_, min}
+use mathlib.Core.Path.{_≡_, ap}
+use native.Mathlib.Omega.{arith}
+use lib.ListN.{length}
+use Rattle.nib.specs.Neighbors.{entriesOf}
+use Rattle.tries.specs.Tries.{skipped, taking}
+use Rattle.tries.specs.declared.Candidates.{Candidates}
+use borrow.Author.Needs.{needs}
+use Rattle.tries.proofs.take_next.Statement.{statement}
+use Rattle.tries.proofs.take_next.Tie as tie
+
+abbrev takenTo : ℕ → Candidates → Candidates
+takenTo k c = record { list = c .list; taken = k }
+
+len-requires : tie.Need-len-requires
+len-requires c κs = search needs
+
+next-place-requires : tie.Need-next-place-requires
+next-place-requires c κs = search needs
+
+returns : tie.Need-returns
+unfolding taking
+returns c =
+    let a = c .before .before .before .args in
+    let e : 255 ≡ min (a .candidates .taken + skipped (length (entriesOf (a .table))) (a .candidates) + 1) 255 =
+    rw (← c .before .before .len .ensures) (omega (arith, c .before .next-place .ensures)) in
+    ap (λ (k : ℕ). takenTo k (a .candidates)) e
+
+add-out : tie.Need-add-out
+add-out c = search needs
+
+returns-2 : tie.Need-returns-2
+unfolding taking
+returns-2 c =
+    let a = c .before .before .before .args in
+    let e : c .before .next-place .result + 1 ≡ min (a .candidates .taken + skipped (length (entriesOf (a .table))) (a .candidates) + 1) 255 =
+    rw (← c .before .before .len .ensures) (omega (arith, c .before .next-place .ensures)) in
+    ap (λ (k : ℕ). takenTo k (a .candidates)) e
+
+pub take-next-spec : {M : Type 1} → statement M
+take-next-spec = tie.close (tie.spec len-requires next-place-requires returns add-out returns-2)

@@ -1,0 +1,182 @@
+// The candidates of an operation: which one is being tried, which comes next, and what a try writes to the neighbour table.
+ghost use mathlib.Core.Path.{_≡_};
+ghost use Prim.Native.Nat.{_+_, _-_};
+ghost use lib.ListN.{length, drop, getD};
+ghost use Rattle.lists.specs.Lists.{firstIndex};
+ghost use Rattle.nib.specs.Neighbors.{entriesOf};
+ghost use Rattle.neighbor_table.specs.NeighborTable.{onEntries};
+ghost use Rattle.candidates.specs.Candidates.{itemsOf};
+ghost use Rattle.tries.specs.Tries.{parentIn, triedIndex, triedIn, nextIndex, nextIn, skipped, strays, taking, adoptedNext, joinedTried, barredTried, within};
+use candidates::CandidateList;
+use neighbor_table::adopt_parent;
+use neighbor_table::clear_beacon_fields;
+use neighbor_table::clear_potential_parent;
+use neighbor_table::mark_parent;
+use neighbor_table::parent;
+use neighbor_table::seen;
+use nib::Neighbor;
+use nib::NeighborTable;
+
+// Indexes into the neighbour table. The first `taken` of them have been tried, of which the last is being tried; the others are still to be tried.
+pub struct Candidates {
+    pub list: CandidateList,
+    pub taken: u8,
+}
+
+// How many indexes a list has: 16 where its count says more.
+fn in_use(list: CandidateList) -> u8
+    ensures { λ r. ⌜ r ≡ length (itemsOf list) ⌝ }
+{
+    let count = list.count;
+    if count <= 16 { count } else { 16 }
+}
+
+// The index at a place of a list, 255 past its end.
+fn index_at(list: CandidateList, place: u8) -> u8
+    ensures { λ r. ⌜ r ≡ getD (itemsOf list) place 255 ⌝ }
+{
+    let count = in_use(list);
+    if count <= place {
+        return 255;
+    }
+    let at = place as usize;
+    list.indexes[at]
+}
+
+// Whether an index is below a limit, or that it is not.
+fn is_within(index: u8, limit: u8, below: bool) -> bool
+    ensures { λ r. ⌜ r ≡ within below limit index ⌝ }
+{
+    if below {
+        return index < limit;
+    }
+    !(index < limit)
+}
+
+// How many indexes from a place on stand before the first that is below a limit, or before the first that is not.
+fn first_from(list: CandidateList, from: u8, limit: u8, below: bool) -> u8
+    ensures { λ r. ⌜ r ≡ firstIndex (within below limit) (drop from (itemsOf list)) ⌝ }
+{
+    let count = in_use(list);
+    let mut place = from;
+    while place < count {
+        let at = place as usize;
+        let index = list.indexes[at];
+        if is_within(index, limit, below) {
+            return place - from;
+        }
+        place += 1;
+    }
+    place - from
+}
+
+fn tried_index(candidates: Candidates) -> u8
+    ensures { λ r. ⌜ r ≡ triedIndex candidates ⌝ }
+{
+    let taken = candidates.taken;
+    if taken == 0 {
+        return 255;
+    }
+    index_at(candidates.list, taken - 1)
+}
+
+// The place of the next index to be tried in a table of `count` entries.
+fn next_place(count: u8, candidates: Candidates) -> u8
+    ensures { λ r. ⌜ r ≡ candidates .taken + skipped count candidates ⌝ }
+{
+    let taken = candidates.taken;
+    let skipped = first_from(candidates.list, taken, count, true);
+    taken + skipped
+}
+
+fn next_index(count: u8, candidates: Candidates) -> u8
+    ensures { λ r. ⌜ r ≡ nextIndex count candidates ⌝ }
+{
+    let place = next_place(count, candidates);
+    index_at(candidates.list, place)
+}
+
+// The parent, as commands are addressed to it.
+pub fn parent_seen(table: NeighborTable) -> Neighbor
+    ensures { λ r. ⌜ r ≡ parentIn (entriesOf table) ⌝ }
+{
+    seen(table, parent(table))
+}
+
+// The candidate being tried.
+pub fn tried(table: NeighborTable, candidates: Candidates) -> Neighbor
+    ensures { λ r. ⌜ r ≡ triedIn (entriesOf table) candidates ⌝ }
+{
+    let index = tried_index(candidates);
+    seen(table, table.get(index))
+}
+
+// The next candidate. An index past the table is skipped.
+pub fn next(table: NeighborTable, candidates: Candidates) -> Neighbor
+    ensures { λ r. ⌜ r ≡ nextIn (entriesOf table) candidates ⌝ }
+{
+    let count = table.len();
+    let index = next_index(count, candidates);
+    seen(table, table.get(index))
+}
+
+// The place of the index being tried, the first place where none has been taken.
+fn last_place(taken: u8) -> u8
+    ensures { λ r. ⌜ r ≡ taken - 1 ⌝ }
+{
+    if taken == 0 { 0 } else { taken - 1 }
+}
+
+// Whether an index being tried or still to be tried is not below a count.
+pub fn strays(count: u8, candidates: Candidates) -> bool
+    ensures { λ r. ⌜ r ≡ strays count candidates ⌝ }
+{
+    let list = candidates.list;
+    let from = last_place(candidates.taken);
+    let length = in_use(list);
+    if length <= from {
+        return false;
+    }
+    first_from(list, from, count, false) < length - from
+}
+
+// The next candidate is taken.
+pub fn take_next(table: NeighborTable, candidates: Candidates) -> Candidates
+    ensures { λ r. ⌜ r ≡ taking (length (entriesOf table)) candidates ⌝ }
+{
+    let count = table.len();
+    let place = next_place(count, candidates);
+    let mut out = candidates;
+    if place == 255 {
+        out.taken = 255;
+        return out;
+    }
+    out.taken = place + 1;
+    out
+}
+
+// The next candidate is the parent, and no other entry is.
+pub fn adopt_next(table: NeighborTable, candidates: Candidates) -> NeighborTable
+    ensures { λ r. ⌜ r ≡ onEntries (adoptedNext candidates) table ⌝ }
+{
+    let count = table.len();
+    let index = next_index(count, candidates);
+    adopt_parent(table, index)
+}
+
+// The candidate being tried is a parent, and every entry is without its beacon fields.
+pub fn join_tried(table: NeighborTable, candidates: Candidates) -> NeighborTable
+    ensures { λ r. ⌜ r ≡ onEntries (joinedTried candidates) table ⌝ }
+{
+    let index = tried_index(candidates);
+    let marked = mark_parent(table, index);
+    clear_beacon_fields(marked)
+}
+
+// The candidate being tried is no potential parent.
+pub fn bar_tried(table: NeighborTable, candidates: Candidates) -> NeighborTable
+    ensures { λ r. ⌜ r ≡ onEntries (barredTried candidates) table ⌝ }
+{
+    let index = tried_index(candidates);
+    clear_potential_parent(table, index)
+}

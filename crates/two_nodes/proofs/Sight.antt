@@ -1,0 +1,462 @@
+-- What network n sees of a table: its own entries and the parents, each with the IEEE address by which commands are addressed to it. Each look at a table is a look
+-- at what is seen, and what is seen after a write is determined by what was seen before. Assumes nothing.
+use Prim.Native.Nat.{ℕ, zero, suc, _<_, _≤_}
+use mathlib.Core.Path.{_≡_, refl, sym, ap, ap₂, _∙_, fun-ext, subst⁻¹}
+use mathlib.Core.Bool.{Bool, true, false, cond, _&&_, _||_, false≢true}
+use mathlib.Core.List.{List, [], _∷_, _++_, map, map-map, flatMap}
+use native.Mathlib.Omega.{arith}
+use borrow.Author.Tests.{eqb-true, eqb-false, eq-eqb, ne-eqb, lt-ltb, le-ltb, ltb-true}
+use lib.Dec.{eqb, ltb}
+use lib.ListN.{length, getD, length-map, List·getD-map}
+use Rattle.lists.proofs.Lists.{select-long}
+use Rattle.lists.proofs.Maps.{change-past}
+use Rattle.lists.proofs.Order.{All-of, All-map}
+use Rattle.lists.proofs.Indexes.{in-indexes}
+use Rattle.lists.specs.Lists.{foldl, indexesFrom, select, firstIndex, changeAt, any, All}
+use Rattle.lists.proofs.Conditions.{split}
+use Rattle.lists.proofs.Ranks.{isMarked, rank, changeRanked, marked-below, rank-below, at-rank, select-select, marks-map, marks-change, select-change, ranked-past, rank-none, getD-map, first-map, select-map, map-change, marked-of, indexes-rank, foldl-map, indexes-map, sort-same}
+use Rattle.nib.specs.Neighbors.{entryAt, blank}
+use Rattle.nib.specs.declared.IeeeAddress.{IeeeAddress}
+use Rattle.nib.specs.declared.ShortAddress.{ShortAddress}
+use Rattle.nib.specs.declared.NwkNeighbor.{NwkNeighbor}
+use Rattle.nib.specs.declared.Neighbor.the-variants.{Entry}
+use Rattle.neighbor_table.specs.NeighborTable.{hasAddress, isParent, found, parentOf, ieeeNumber, seenIn, withIeee, withRelationship, withoutPotential, cleared, PARENT, NONE, learnt, marked, adopted, allCleared}
+use Rattle.neighbor_table.proofs.Looks.{found-cons, parent-cons, learnt-cons}
+use Rattle.candidates.specs.UpdateIds.{ofNetwork, permits, potential, replaced, newest}
+use Rattle.candidates.specs.Candidates.{depthAt, ordered, candidates}
+use Rattle.candidates.specs.declared.Newest.{Newest}
+use Rattle.candidates.specs.declared.Newest.the-variants.{Nothing}
+use Rattle.candidates.proofs.Laws.{member}
+use Rattle.candidates.proofs.Network.{map-ordered, fit, eligible-own}
+use Rattle.tries.specs.Tries.{parentIn}
+use Rattle.mlme.specs.declared.Address.{Address}
+use Rattle.mlme.specs.declared.Address.the-variants.{Short, Extended}
+use Rattle.mlme.specs.declared.PanDescriptor.{PanDescriptor}
+use Rattle.discovery.specs.Discovery.{entryOf, neighborBy, present, neighborsOf, beaconOf}
+use Rattle.discovery.proofs.Scans.{network-neighbors}
+
+-- THE TABLE AS COMMANDS SEE IT
+
+-- an entry with the IEEE address that is looked up by its short address
+abbrev pub look : (ℕ → IeeeAddress) → NwkNeighbor → NwkNeighbor
+look g e = withIeee (g (e .«network_address» .0)) e
+
+abbrev pub ieeeIn : List NwkNeighbor → ℕ → IeeeAddress
+ieeeIn es a = ieeeNumber (found a es)
+
+unfoldable pub seen : List NwkNeighbor → List NwkNeighbor
+seen es = map (look (ieeeIn es)) es
+
+pub seen-long : (es : List NwkNeighbor) → length (seen es) ≡ length es
+unfolding seen
+seen-long es = length-map es (look (ieeeIn es))
+
+-- reads: the entry at an index, and the parent
+
+pub entry-seen : (es : List NwkNeighbor) (i : ℕ) → seenIn es (entryAt es i) ≡ entryAt (seen es) i
+unfolding seen
+entry-seen es i =
+    split (ltb i (length es))
+    (λ t. rw (length-map es (look (ieeeIn es)), t) (ap (λ (e : NwkNeighbor). Entry e) (sym (getD-map (look (ieeeIn es)) es i blank blank (ltb-true i (length es) t)))))
+    (λ t. rw (length-map es (look (ieeeIn es)), t))
+
+pub parent-seen : (es : List NwkNeighbor) → parentIn es ≡ parentOf (seen es)
+unfolding parentIn parentOf
+parent-seen es =
+    entry-seen es (firstIndex isParent es)
+    ∙ ap (entryAt (seen es)) (sym (unfold seen in first-map (look (ieeeIn es)) isParent isParent (λ e. refl) es))
+
+-- a change that keeps the addresses
+
+pub record Mild (f : NwkNeighbor → NwkNeighbor) : Type 0 where
+  pub address : (e : NwkNeighbor) → f e .«network_address» ≡ e .«network_address»
+  pub ieee : (e : NwkNeighbor) → f e .«extended_address» ≡ e .«extended_address»
+  pub apart : (a : IeeeAddress) (e : NwkNeighbor) → withIeee a (f e) ≡ f (withIeee a e)
+
+pub mild-relationship : (r : ℕ) → Mild (withRelationship r)
+mild-relationship r = record { address = λ e. refl; ieee = λ e. refl; apart = λ a e. refl }
+
+pub mild-potential : Mild withoutPotential
+mild-potential = record { address = λ e. refl; ieee = λ e. refl; apart = λ a e. refl }
+
+pub mild-cleared : Mild cleared
+mild-cleared = record { address = λ e. refl; ieee = λ e. refl; apart = λ a e. refl }
+
+module _ (f : NwkNeighbor → NwkNeighbor) (m : Mild f) where
+  look-mild : (g : ℕ → IeeeAddress) (e : NwkNeighbor) → look g (f e) ≡ f (look g e)
+  look-mild g e = ap (λ (x : ShortAddress). withIeee (g (x .0)) (f e)) (m .address e) ∙ m .apart (g (e .«network_address» .0)) e
+
+  -- of two lists whose tails have the same addresses, one begins with the changed entry
+  ieee-head : (e : NwkNeighbor) (l k : List NwkNeighbor) (a : ℕ) → ieeeIn l a ≡ ieeeIn k a → ieeeIn (f e ∷ l) a ≡ ieeeIn (e ∷ k) a
+  ieee-head e l k a h =
+      rw (found-cons a (f e) l, found-cons a e k, m .address e)
+      (split (hasAddress a e) (λ t. rw t (m .ieee e)) (λ t. rw t h))
+
+  ieee-kept : (e : NwkNeighbor) (l k : List NwkNeighbor) (a : ℕ) → ieeeIn l a ≡ ieeeIn k a → ieeeIn (e ∷ l) a ≡ ieeeIn (e ∷ k) a
+  ieee-kept e l k a h = rw (found-cons a e l, found-cons a e k) (split (hasAddress a e) (λ t. rw t) (λ t. rw t h))
+
+  ieee-change : (i : ℕ) (es : List NwkNeighbor) (a : ℕ) → ieeeIn (changeAt i f es) a ≡ ieeeIn es a
+  ieee-change i [] a = refl
+  ieee-change zero (e ∷ es) a = ieee-head e es es a refl
+  ieee-change (suc i) (e ∷ es) a = ieee-kept e (changeAt i f es) es a (ieee-change i es a)
+
+  ieee-map : (es : List NwkNeighbor) (a : ℕ) → ieeeIn (map f es) a ≡ ieeeIn es a
+  ieee-map [] a = refl
+  ieee-map (e ∷ es) a = ieee-head e (map f es) es a (ieee-map es a)
+
+  pub seen-change : (i : ℕ) (es : List NwkNeighbor) → seen (changeAt i f es) ≡ changeAt i f (seen es)
+  unfolding seen
+  seen-change i es =
+      ap (λ (g : ℕ → IeeeAddress). map (look g) (changeAt i f es)) (fun-ext (ieee-change i es))
+      ∙ map-change (look (ieeeIn es)) f f (look-mild (ieeeIn es)) i es
+
+  pub seen-map : (es : List NwkNeighbor) → seen (map f es) ≡ map f (seen es)
+  unfolding seen
+  seen-map es = ap (λ (g : ℕ → IeeeAddress). map (look g) (map f es)) (fun-ext (ieee-map es)) ∙ both es
+    where
+      both : (l : List NwkNeighbor) → map (look (ieeeIn es)) (map f l) ≡ map f (map (look (ieeeIn es)) l)
+      both [] = refl
+      both (e ∷ l) = λ i. look-mild (ieeeIn es) e i ∷ both l i
+
+-- learning: whichever entry of a short address learns, every one is addressed by what was learnt
+
+abbrev pub taughtTo : ℕ → IeeeAddress → NwkNeighbor → NwkNeighbor
+taughtTo a x e = cond (hasAddress a e) (withIeee x e) e
+
+module _ (a : ℕ) (x : IeeeAddress) where
+  -- a look past the entry's own address does not see which entry learnt
+  look-learnt : (g : ℕ → IeeeAddress) (es : List NwkNeighbor) → map (look g) (learnt a x es) ≡ map (look g) es
+  unfolding learnt
+  look-learnt g [] = refl
+  look-learnt g (e ∷ es) =
+      ap (map (look g)) (learnt-cons a x e es)
+      ∙ split (hasAddress a e) (λ t. rw t) (λ t. rw t (ap (λ (z : List NwkNeighbor). look g e ∷ z) (look-learnt g es)))
+
+  learnt-ieee : (es : List NwkNeighbor) → any (hasAddress a) es ≡ true → (y : ℕ) → ieeeIn (learnt a x es) y ≡ cond (eqb y a) x (ieeeIn es y)
+  learnt-ieee [] h y = absurd (false≢true h)
+  learnt-ieee (e ∷ es) h y =
+      let b = e .«network_address» .0 in
+      rw (learnt-cons a x e es)
+      (split (eqb b a)
+      (λ t. rw (t, found-cons y (withIeee x e) es, found-cons y e es)
+      (split (eqb y a)
+      (λ u. rw (eq-eqb b y (eqb-true b a t ∙ sym (eqb-true y a u)), u))
+      (λ u. rw (ne-eqb b y (λ w. eqb-false y a u (sym w ∙ eqb-true b a t)), u))))
+      (λ t. rw (t, found-cons y e (learnt a x es), found-cons y e es)
+      (split (eqb b y)
+      (λ u. rw (u, ne-eqb y a (λ w. eqb-false b a t (eqb-true b y u ∙ w))))
+      (λ u. rw u (learnt-ieee es (rw t at h) y)))))
+
+  learnt-absent : (es : List NwkNeighbor) → any (hasAddress a) es ≡ false → learnt a x es ≡ es
+  unfolding learnt
+  learnt-absent [] h = refl
+  learnt-absent (e ∷ es) h =
+      learnt-cons a x e es
+      ∙ split (hasAddress a e) (λ t. absurd (false≢true (sym (rw t at h)))) (λ t. rw t (ap (λ (z : List NwkNeighbor). e ∷ z) (learnt-absent es (rw t at h))))
+
+  taught-all : (g : ℕ → IeeeAddress) (es : List NwkNeighbor) → map (look (λ y. cond (eqb y a) x (g y))) es ≡ map (taughtTo a x) (map (look g) es)
+  taught-all g [] = refl
+  taught-all g (e ∷ es) =
+      let ih = taught-all g es in
+      split (hasAddress a e) (λ t. rw t (ap (λ (z : List NwkNeighbor). withIeee x e ∷ z) ih)) (λ t. rw t (ap (λ (z : List NwkNeighbor). look g e ∷ z) ih))
+
+  taught-none : (g : ℕ → IeeeAddress) (es : List NwkNeighbor) → any (hasAddress a) es ≡ false → map (taughtTo a x) (map (look g) es) ≡ map (look g) es
+  taught-none g [] h = refl
+  taught-none g (e ∷ es) h =
+      split (hasAddress a e) (λ t. absurd (false≢true (sym (rw t at h)))) (λ t. rw t (ap (λ (z : List NwkNeighbor). look g e ∷ z) (taught-none g es (rw t at h))))
+
+  pub seen-learnt : (es : List NwkNeighbor) → seen (learnt a x es) ≡ map (taughtTo a x) (seen es)
+  unfolding seen
+  seen-learnt es =
+      split (any (hasAddress a) es)
+      (λ t. look-learnt (ieeeIn (learnt a x es)) es ∙ ap (λ (g : ℕ → IeeeAddress). map (look g) es) (fun-ext (learnt-ieee es t)) ∙ taught-all (ieeeIn es) es)
+      (λ t. ap (λ (l : List NwkNeighbor). map (look (ieeeIn l)) l) (learnt-absent es t) ∙ sym (taught-none (ieeeIn es) es t))
+
+-- entries with no IEEE address are seen as they are
+
+abbrev pub NoAddress : NwkNeighbor → Type 0
+NoAddress e = e .«extended_address» ≡ record { 0 = 0 }
+
+none-known : (es : List NwkNeighbor) → All NoAddress es → (a : ℕ) → ieeeIn es a ≡ record { 0 = 0 }
+unfolding found
+none-known [] h a = refl
+none-known (e ∷ es) h a = ap ieeeNumber (found-cons a e es) ∙ split (hasAddress a e) (λ t. rw t (h .0)) (λ t. rw t (none-known es (h .1) a))
+
+pub seen-fresh : (es : List NwkNeighbor) → All NoAddress es → seen es ≡ es
+unfolding seen
+seen-fresh es h = ap (λ (g : ℕ → IeeeAddress). map (look g) es) (fun-ext (none-known es h)) ∙ go es h
+  where
+    go : (l : List NwkNeighbor) → All NoAddress l → map (look (λ a. record { 0 = 0 })) l ≡ l
+    go [] k = refl
+    go (e ∷ l) k = λ i. withIeee (sym (k .0) i) e ∷ go l (k .1) i
+
+-- WHAT NETWORK n SEES
+
+-- its own entries, and those with relationship PARENT, which may be of any network
+abbrev pub visible : ℕ → NwkNeighbor → Bool
+visible n e = ofNetwork n e || isParent e
+
+unfoldable pub shows : ℕ → List NwkNeighbor → List NwkNeighbor
+shows n es = select (visible n) (seen es)
+
+-- which entries are its own
+abbrev pub marks : ℕ → List NwkNeighbor → List Bool
+marks n es = map (ofNetwork n) es
+
+or-right : (a b : Bool) → b ≡ true → (a || b) ≡ true
+or-right true b h = refl
+or-right false b h = h
+
+or-false : (a : Bool) → (a || false) ≡ a
+or-false true = refl
+or-false false = refl
+
+module _ (n : ℕ) where
+  own-visible : (e : NwkNeighbor) → ofNetwork n e ≡ true → visible n e ≡ true
+  own-visible e t = rw t
+
+  pub marks-seen : (es : List NwkNeighbor) → marks n (seen es) ≡ marks n es
+  unfolding seen
+  marks-seen es = marks-map (ofNetwork n) (look (ieeeIn es)) (λ e. refl) es
+
+  pub own-shows : (es : List NwkNeighbor) → select (ofNetwork n) (shows n es) ≡ map (look (ieeeIn es)) (select (ofNetwork n) es)
+  unfolding shows seen
+  own-shows es = select-select (ofNetwork n) (visible n) own-visible (seen es) ∙ select-map (look (ieeeIn es)) (ofNetwork n) (ofNetwork n) (λ e. refl) es
+
+-- reads
+
+parent-visible : (n : ℕ) (l : List NwkNeighbor) → parentOf (select (visible n) l) ≡ parentOf l
+parent-visible n [] = refl
+parent-visible n (e ∷ l) =
+    let r = select (visible n) l in
+    split (isParent e)
+    (λ t. rw (or-right (ofNetwork n e) (isParent e) t, parent-cons e r, parent-cons e l, t))
+    (λ t. split (ofNetwork n e)
+    (λ u. rw (u, parent-cons e r, parent-cons e l, t) (parent-visible n l))
+    (λ u. rw (u, parent-cons e l, t) (parent-visible n l)))
+
+pub parent-shows : (n : ℕ) (es : List NwkNeighbor) → parentIn es ≡ parentOf (shows n es)
+unfolding shows
+parent-shows n es = parent-seen es ∙ sym (parent-visible n (seen es))
+
+-- an index, and its place among the network's own entries: its rank, or 255 where there is no index (which is past every table)
+pub data Placed (ms : List Bool) (i r : ℕ) : Type 0 where
+  ranked : isMarked ms i ≡ true → r ≡ rank ms i → Placed ms i r
+  nowhere : i ≡ 255 → r ≡ 255 → Placed ms i r
+
+pub placed-at : (ms : List Bool) (l : List ℕ) → All (λ i. isMarked ms i ≡ true) l → (k : ℕ) → Placed ms (getD l k 255) (getD (map (rank ms) l) k 255)
+placed-at ms [] a k = nowhere refl refl
+placed-at ms (i ∷ l) a zero = ranked (a .0) refl
+placed-at ms (i ∷ l) a (suc k) = placed-at ms l (a .1) k
+
+module _ (n : ℕ) where
+  entry-placed : (l : List NwkNeighbor) (i r : ℕ) → length l ≤ 16 → Placed (marks n l) i r → entryAt l i ≡ entryAt (select (ofNetwork n) l) r
+  entry-placed l i r few (ranked t e) =
+      rw (e, lt-ltb i (length l) (marked-below (ofNetwork n) l i t), lt-ltb _ _ (rank-below (ofNetwork n) l i t))
+      (ap (λ (x : NwkNeighbor). Entry x) (at-rank (ofNetwork n) l i blank t))
+  entry-placed l i r few (nowhere a b) = rw (a, b, le-ltb 255 (length l) (omega arith), le-ltb 255 (length (select (ofNetwork n) l)) (omega (arith, select-long (ofNetwork n) l)))
+
+  pub entry-shows : (es : List NwkNeighbor) (i r : ℕ) → length es ≤ 16 → Placed (marks n es) i r → seenIn es (entryAt es i) ≡ entryAt (select (ofNetwork n) (shows n es)) r
+  unfolding shows
+  entry-shows es i r few p =
+      entry-seen es i
+      ∙ entry-placed (seen es) i r (omega (arith, seen-long es)) (subst⁻¹ (λ (ms : List Bool). Placed ms i r) (marks-seen n es) p)
+      ∙ ap (λ (l : List NwkNeighbor). entryAt l r) (sym (select-select (ofNetwork n) (visible n) (own-visible n) (seen es)))
+
+-- writes at an index
+
+module _ (n : ℕ) (f : NwkNeighbor → NwkNeighbor) (m : Mild f) (kept : (e : NwkNeighbor) → ofNetwork n (f e) ≡ ofNetwork n e) where
+  pub changed-shows : (es : List NwkNeighbor) (i r : ℕ) → length es ≤ 16 → Placed (marks n es) i r → shows n (changeAt i f es) ≡ changeRanked (ofNetwork n) f r (shows n es)
+  unfolding shows
+  changed-shows es i r few (ranked t e) =
+      ap (select (visible n)) (seen-change f m i es)
+      ∙ select-change (ofNetwork n) f kept (visible n) (own-visible n) (seen es) i (subst⁻¹ (λ (ms : List Bool). isMarked ms i ≡ true) (marks-seen n es) t)
+      ∙ ap (λ (k : ℕ). changeRanked (ofNetwork n) f k (select (visible n) (seen es))) (ap (λ (ms : List Bool). rank ms i) (marks-seen n es) ∙ sym e)
+  changed-shows es i r few (nowhere a b) =
+      let h : length (select (visible n) (seen es)) ≤ r = omega (arith, select-long (visible n) (seen es), seen-long es) in
+      ap (λ (l : List NwkNeighbor). select (visible n) (seen l)) (change-past f i es (omega arith)) ∙ sym (ranked-past (ofNetwork n) f r (select (visible n) (seen es)) h)
+
+-- a rejoin makes the candidate PARENT and all others NONE: of the others only the network's own are still seen
+
+abbrev pub adoptedIn : ℕ → ℕ → List NwkNeighbor → List NwkNeighbor
+adoptedIn n r v =
+    cond (ltb r (length (select (ofNetwork n) v))) (changeRanked (ofNetwork n) (withRelationship PARENT) r (map (withRelationship NONE) (select (ofNetwork n) v))) v
+
+module _ (n : ℕ) where
+  none-shows : (es : List NwkNeighbor) → shows n (map (withRelationship NONE) es) ≡ map (withRelationship NONE) (select (ofNetwork n) (shows n es))
+  unfolding shows
+  none-shows es =
+      ap (select (visible n)) (seen-map (withRelationship NONE) (mild-relationship NONE) es)
+      ∙ select-map (withRelationship NONE) (ofNetwork n) (visible n) (λ e. or-false (ofNetwork n e)) (seen es)
+      ∙ ap (map (withRelationship NONE)) (sym (select-select (ofNetwork n) (visible n) (own-visible n) (seen es)))
+
+  none-marks : (es : List NwkNeighbor) → marks n (map (withRelationship NONE) es) ≡ marks n es
+  none-marks es = marks-map (ofNetwork n) (withRelationship NONE) (λ e. refl) es
+
+  pub adopted-shows : (es : List NwkNeighbor) (i r : ℕ) → length es ≤ 16 → Placed (marks n es) i r → shows n (adopted i es) ≡ adoptedIn n r (shows n es)
+  unfolding adopted marked
+  adopted-shows es i r few (ranked t e) =
+      let own = select (ofNetwork n) (shows n es) in
+      let long : length own ≡ length (select (ofNetwork n) es) = ap length (own-shows n es) ∙ length-map (select (ofNetwork n) es) (look (ieeeIn es)) in
+      let below : r < length own = omega (arith, long, e, rank-below (ofNetwork n) es i t) in
+      rw (lt-ltb i (length es) (marked-below (ofNetwork n) es i t), lt-ltb r (length own) below)
+      (changed-shows n (withRelationship PARENT) (mild-relationship PARENT) (λ x. refl) (map (withRelationship NONE) es) i r (omega (arith, length-map es (withRelationship NONE)))
+      (subst⁻¹ (λ (ms : List Bool). Placed ms i r) (none-marks es) (ranked t e))
+      ∙ ap (changeRanked (ofNetwork n) (withRelationship PARENT) r) (none-shows es))
+  adopted-shows es i r few (nowhere a b) =
+      let own = select (ofNetwork n) (shows n es) in
+      let long : length own ≡ length (select (ofNetwork n) es) = ap length (own-shows n es) ∙ length-map (select (ofNetwork n) es) (look (ieeeIn es)) in
+      let past : length own ≤ r = omega (arith, long, b, select-long (ofNetwork n) es) in
+      rw (le-ltb i (length es) (omega arith), le-ltb r (length own) past)
+
+  pub adopted-marks : (i : ℕ) (es : List NwkNeighbor) → marks n (adopted i es) ≡ marks n es
+  unfolding adopted marked
+  adopted-marks i es =
+      split (ltb i (length es))
+      (λ t. rw t (marks-change (ofNetwork n) (withRelationship PARENT) (λ e. refl) i (map (withRelationship NONE) es) ∙ none-marks es)) (λ t. rw t)
+
+-- a join makes the candidate PARENT and clears the ids of every entry: only the parents are still seen
+
+abbrev pub joinedIn : ℕ → ℕ → List NwkNeighbor → List NwkNeighbor
+joinedIn n r v = map cleared (select isParent (changeRanked (ofNetwork n) (withRelationship PARENT) r v))
+
+module _ (n : ℕ) (some : n ≡ 0 → ⊥) where
+  foreign : (e : NwkNeighbor) → ofNetwork n (cleared e) ≡ false
+  foreign e = ne-eqb 0 n (λ z. some (sym z))
+
+  cleared-shows : (es : List NwkNeighbor) → shows n (map cleared es) ≡ map cleared (select isParent (shows n es))
+  unfolding shows
+  cleared-shows es =
+      ap (select (visible n)) (seen-map cleared mild-cleared es)
+      ∙ select-map cleared isParent (visible n) (λ e. ap (λ (b : Bool). b || isParent e) (foreign e)) (seen es)
+      ∙ ap (map cleared) (sym (select-select isParent (visible n) (λ e. or-right (ofNetwork n e) (isParent e)) (seen es)))
+
+  pub joined-shows : (es : List NwkNeighbor) (i r : ℕ) → length es ≤ 16 → Placed (marks n es) i r → shows n (allCleared (marked i es)) ≡ joinedIn n r (shows n es)
+  unfolding allCleared marked
+  joined-shows es i r few p =
+      cleared-shows (changeAt i (withRelationship PARENT) es)
+      ∙ ap (λ (l : List NwkNeighbor). map cleared (select isParent l)) (changed-shows n (withRelationship PARENT) (mild-relationship PARENT) (λ e. refl) es i r few p)
+
+  -- no entry is the network's any more
+  pub joined-ranks : (es : List NwkNeighbor) (j : ℕ) → rank (marks n (allCleared es)) j ≡ 0
+  unfolding allCleared
+  joined-ranks es j = ap (λ (ms : List Bool). rank ms j) (map-map (ofNetwork n) cleared es) ∙ rank-none (λ e. ofNetwork n (cleared e)) foreign es j
+
+-- learning
+
+module _ (n a : ℕ) (x : IeeeAddress) where
+  pub learnt-shows : (es : List NwkNeighbor) → shows n (learnt a x es) ≡ map (taughtTo a x) (shows n es)
+  unfolding shows
+  learnt-shows es = ap (select (visible n)) (seen-learnt a x es) ∙ select-map (taughtTo a x) (visible n) (visible n) same (seen es)
+    where
+      same : (e : NwkNeighbor) → visible n (taughtTo a x e) ≡ visible n e
+      same e = split (hasAddress a e) (λ t. rw t) (λ t. rw t)
+
+  pub learnt-marks : (es : List NwkNeighbor) → marks n (learnt a x es) ≡ marks n es
+  unfolding learnt
+  learnt-marks es = marks-change (ofNetwork n) (withIeee x) (λ e. refl) (firstIndex (hasAddress a) es) es
+
+-- A SCAN
+
+-- a new entry has no IEEE address and is no parent
+abbrev New : NwkNeighbor → Type 0
+New e = NoAddress e × (isParent e ≡ false)
+
+all-new : (ds : List PanDescriptor) → All New (neighborsOf ds)
+unfolding neighborsOf flatMap present neighborBy entryOf
+all-new [] = tt
+all-new (d ∷ ds) = go (d .«coord_address») (all-new ds)
+  where
+    go : (a : Address) → All New (neighborsOf ds) → All New (present (neighborBy d a) ++ neighborsOf ds)
+    go (Short p a) h = ((refl, refl), h)
+    go (Extended p a) h = h
+
+new-visible : (n : ℕ) (es : List NwkNeighbor) → All New es → select (visible n) es ≡ select (ofNetwork n) es
+new-visible n [] h = refl
+new-visible n (e ∷ es) h =
+    let ih = new-visible n es (h .1) in
+    split (ofNetwork n e) (λ t. rw t (ap (λ (z : List NwkNeighbor). e ∷ z) ih)) (λ t. rw (t, h .0 .1) ih)
+
+-- of a scan's table network n sees what its own beacons tell
+pub scan-shows : (n : ℕ) (ds : List PanDescriptor) → shows n (neighborsOf ds) ≡ neighborsOf (select (beaconOf n) ds)
+unfolding shows
+scan-shows n ds =
+    let new = all-new ds in
+    ap (select (visible n)) (seen-fresh (neighborsOf ds) (All-map New NoAddress (λ e h. h .0) (neighborsOf ds) new))
+    ∙ new-visible n (neighborsOf ds) new
+    ∙ network-neighbors n ds
+
+-- THE CHOICE OF CANDIDATES
+
+abbrev depthOf : NwkNeighbor → ℕ
+depthOf e = e .depth
+
+-- the candidates' places among the network's own entries, from what is seen
+abbrev pub choiceIn : ℕ → Bool → Bool → ℕ → List NwkNeighbor → List ℕ
+choiceIn profile router permit n v =
+    ordered profile (λ r. getD (map depthOf (select (ofNetwork n) v)) r 0) (indexesFrom (fit router permit (newest permit n v)) 0 (select (ofNetwork n) v))
+
+newest-shows : (permit : Bool) (n : ℕ) (es : List NwkNeighbor) → newest permit n (shows n es) ≡ newest permit n es
+unfolding newest
+newest-shows permit n es =
+    ap (λ (l : List NwkNeighbor). foldl step Nothing (select part l)) (own-shows n es)
+    ∙ ap (foldl step Nothing) (select-map (look (ieeeIn es)) part part (λ e. refl) (select (ofNetwork n) es))
+    ∙ foldl-map (look (ieeeIn es)) step Nothing (select part (select (ofNetwork n) es))
+  where
+    part : NwkNeighbor → Bool
+    part e = permits permit e && potential e
+
+    step : Newest → NwkNeighbor → Newest
+    step best e = replaced best (e .«update_id»)
+
+and-left : (a b : Bool) → (a && b) ≡ true → a ≡ true
+and-left true b h = refl
+and-left false b h = h
+
+module _ (profile : ℕ) (router permit : Bool) (n : ℕ) (some : n ≡ 0 → ⊥) (es : List NwkNeighbor) where
+  -- each candidate is an entry of the network
+  pub choice-ours : All (λ i. isMarked (marks n es) i ≡ true) (candidates profile router permit n es)
+  choice-ours =
+      All-of (λ i. isMarked (marks n es) i ≡ true) (candidates profile router permit n es)
+      (λ i h. let m = member profile router permit n es i .0 h in
+      marked-of (ofNetwork n) es i blank (m .0) (and-left _ _ (sym (eligible-own router permit n some es (getD es i blank)) ∙ m .1)))
+
+  abbrev ok : NwkNeighbor → Bool
+  ok = fit router permit (newest permit n es)
+
+  abbrev own : List NwkNeighbor
+  own = select (ofNetwork n) es
+
+  abbrev chosen : List ℕ
+  chosen = indexesFrom (λ e. ofNetwork n e && ok e) 0 es
+
+  abbrev depths : ℕ → ℕ
+  depths r = getD (map depthOf own) r 0
+
+  depth-same : All (λ i. depthAt es i ≡ depths (rank (marks n es) i)) chosen
+  unfolding depthAt
+  depth-same =
+      All-of (λ i. depthAt es i ≡ depths (rank (marks n es) i)) chosen
+      (λ i h. let m = in-indexes (λ e. ofNetwork n e && ok e) blank i es .0 h in
+      let t = marked-of (ofNetwork n) es i blank (m .0) (and-left _ _ (m .1)) in
+      ap depthOf (at-rank (ofNetwork n) es i blank t) ∙ sym (List·getD-map depthOf own (rank (marks n es) i) blank))
+
+  pub choice-shows : map (rank (marks n es)) (candidates profile router permit n es) ≡ choiceIn profile router permit n (shows n es)
+  unfolding candidates
+  choice-shows =
+      ap (λ (p : NwkNeighbor → Bool). map (rank (marks n es)) (ordered profile (depthAt es) (indexesFrom p 0 es))) (fun-ext (eligible-own router permit n some es))
+      ∙ ap (map (rank (marks n es))) keyed
+      ∙ map-ordered (rank (marks n es)) depths profile chosen
+      ∙ ap (ordered profile depths) (indexes-rank (ofNetwork n) ok es)
+      ∙ sym (λ i. ordered profile (λ r. getD (deep i) r 0) (there i))
+    where
+      keyed : ordered profile (depthAt es) chosen ≡ ordered profile (λ i. depths (rank (marks n es) i)) chosen
+      keyed = split (eqb profile 1) (λ t. rw t (sort-same (depthAt es) (λ i. depths (rank (marks n es) i)) chosen depth-same)) (λ t. rw t)
+
+      deep : map depthOf (select (ofNetwork n) (shows n es)) ≡ map depthOf own
+      deep = ap (map depthOf) (own-shows n es) ∙ map-map depthOf (look (ieeeIn es)) own
+
+      there : indexesFrom (fit router permit (newest permit n (shows n es))) 0 (select (ofNetwork n) (shows n es)) ≡ indexesFrom ok 0 own
+      there =
+          ap₂ (λ (b : Newest) (l : List NwkNeighbor). indexesFrom (fit router permit b) 0 l) (newest-shows permit n es) (own-shows n es)
+          ∙ indexes-map (look (ieeeIn es)) ok 0 own
