@@ -1,0 +1,19 @@
+-- `State::handled_on` meets its contract. Assumes nothing.
+use borrow.Author.Needs.{needs}
+use Rattle.node.proofs.State.handled_on.Statement.{statement}
+use Rattle.node.proofs.State.handled_on.Tie as tie
+
+with-nlme-requires : tie.Need-with-nlme-requires
+with-nlme-requires c κs = search needs
+
+changed-requires : tie.Need-changed-requires
+changed-requires c κs = search needs
+
+after-requires : tie.Need-after-requires
+after-requires c κs = search needs
+
+returns : tie.Need-returns
+returns c = rw (c .after .ensures, c .before .changed .ensures, c .before .before .with-nlme .ensures)
+
+pub handled-on-spec : {M : Type 1} → statement M
+handled-on-spec = tie.close (tie.spec with-nlme-requires changed-requires after-requires returns)
