@@ -1,7 +1,9 @@
-// Prints, for every byte, its link cost as an LQI, its capability bits, and its timeout in seconds and milliseconds as an index; then the candidates of a small yard.
+// Prints, for every byte, its link cost as an LQI, its capability bits, its timeout in seconds and milliseconds as an index, and what it means as the status of an
+// association; then the candidates of a small yard.
 ghost use Prim.Native.Nat.{_≤_};
 use candidates::CandidateList;
 use libc::STDOUT_FILENO;
+use management::NlmeJoinStatus;
 use nib::CapabilityInformation;
 use nib::DeviceType;
 use nib::ExtendedPanId;
@@ -37,6 +39,26 @@ fn period(p: OptionalPeriod) {
     }
 }
 
+fn association(status: u8) {
+    match join::join_status(status) {
+        NlmeJoinStatus::Success => {
+            io::write_all(STDOUT_FILENO, b"\tSuccess");
+        }
+        NlmeJoinStatus::PanAtCapacity => {
+            io::write_all(STDOUT_FILENO, b"\tPanAtCapacity");
+        }
+        NlmeJoinStatus::PanAccessDenied => {
+            io::write_all(STDOUT_FILENO, b"\tPanAccessDenied");
+        }
+        NlmeJoinStatus::MacError => {
+            io::write_all(STDOUT_FILENO, b"\tMacError");
+        }
+        _ => {
+            io::write_all(STDOUT_FILENO, b"\tanother");
+        }
+    }
+}
+
 fn row(byte: u8) {
     io::print_decimal(STDOUT_FILENO, byte as u64);
     number(nib::link_cost_from_lqi(byte));
@@ -47,6 +69,7 @@ fn row(byte: u8) {
     flag(CapabilityInformation(byte).allocate_address());
     period(supervision::timeout_seconds(byte));
     period(supervision::negotiated_timeout_ms(byte));
+    association(byte);
     io::write_all(STDOUT_FILENO, b"\n");
 }
 
@@ -119,7 +142,7 @@ fn indexes(list: CandidateList) {
 fn main() {
     io::write_all(
         STDOUT_FILENO,
-        b"byte\tcost\trouter\tmains\treceiver\tsecurity\tallocate\tseconds\tmilliseconds\n",
+        b"byte\tcost\trouter\tmains\treceiver\tsecurity\tallocate\tseconds\tmilliseconds\tassociation\n",
     );
     rows();
     io::write_all(STDOUT_FILENO, b"candidates");
