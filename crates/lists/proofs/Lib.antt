@@ -7,3 +7,4 @@ pub mod Collect
 pub mod Order
 pub mod Indexes
 pub mod Ranks
+pub mod Bytes

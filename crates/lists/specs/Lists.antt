@@ -1,6 +1,6 @@
 -- Functions on lists that the definitions of every crate are made of.
 use Prim.Native.Nat.{ℕ, zero, suc, _<_}
-use mathlib.Core.Bool.{Bool, true, false, cond}
+use mathlib.Core.Bool.{Bool, true, false, cond, _&&_}
 use mathlib.Core.List.{List, [], _∷_, _++_}
 use mathlib.Core.Path.{_≡_}
 use mathlib.Core.Logic.{_⊎_}
@@ -99,3 +99,8 @@ module _ {A : Type 0} where
 -- x before y in the order by a key, and by number among equal keys
 abbrev pub Lex : (ℕ → ℕ) → ℕ → ℕ → Type 0
 Lex k x y = (k x < k y) ⊎ ((k x ≡ k y) × (x < y))
+
+-- whether every element passes a test
+abbrev pub every : {A : Type 0} → (A → Bool) → List A → Bool
+every p [] = true
+every p (x ∷ xs) = p x && every p xs

@@ -1,0 +1,132 @@
+-- Laws of numbers that are read and written. Assumes nothing.
+use Prim.Native.Nat.{ℕ, zero, suc, _+_, _-_, _*_, _/_, _%_, _^_, _<_, _≤_, zero-le}
+use mathlib.Core.Path.{_≡_, refl, sym, ap, _∙_, subst}
+use mathlib.Core.Bool.{Bool, true, false, cond, not, false≢true, _&&_, _||_}
+use mathlib.Core.List.{List, [], _∷_, _++_, append-assoc}
+use native.Mathlib.Nat.{le-refl, le-trans, lt-of-lt-of-le, one-le-pow, pow-suc, pow-succ', pow-zero, div-lt-iff-lt-mul, mul-assoc, mul-one, one-mul, suc-mul, mul-le-mul-left, mul-le-mul-right}
+use native.Mathlib.Numerals.{add-one}
+use native.Mathlib.Omega.{arith}
+use borrow.Author.Tests.{lt-ltb, le-ltb, lt-leb, ltb-true, leb-true, eqb-true}
+use lib.Dec.{ltb, leb, eqb}
+use lib.ListN.{length, drop, getD, set, length-append}
+use lib.Seq.{drop-cons}
+use Rattle.lists.specs.Lists.{every}
+use Rattle.lists.proofs.Bytes.{drop-set}
+use Rattle.text.specs.Text.{digitOf, valueFrom, numberFrom, decimalOf, hexOf, orZero, digitByte, decimalDigits, decimalText}
+use Rattle.text.specs.declared.OptionalNumber.{OptionalNumber}
+use Rattle.text.specs.declared.OptionalNumber.the-variants.{NoNumber, Number}
+
+-- a number in a base is at least its front
+grows : (base v d : ℕ) → 0 < base → v ≤ v * base + d
+grows base v d h = let m : v * 1 ≤ v * base = mul-le-mul-left v h in omega (arith, m, mul-one v)
+
+value-grows : (base : ℕ) → 0 < base → (v : ℕ) (f : List ℕ) → v ≤ valueFrom base v f
+value-grows base h v [] = le-refl v
+value-grows base h v (b ∷ bs) = le-trans (grows base v (digitOf b) h) (value-grows base h (v * base + digitOf b) bs)
+
+none-past : (e : Bool) (x y : OptionalNumber) → cond (e && false) x y ≡ y
+none-past true x y = refl
+none-past false x y = refl
+
+pub not-not : (b : Bool) → b ≡ not (not b)
+not-not true = refl
+not-not false = refl
+
+-- a loop that reads digits: what the next one at i does
+module _ (base max v : ℕ) (f : List ℕ) (i : ℕ) (h : i < length f) where
+  pub number-on : digitOf (getD f i 0) < base → numberFrom base max v (drop i f) ≡ numberFrom base max (v * base + digitOf (getD f i 0)) (drop (i + 1) f)
+  unfolding numberFrom
+  number-on l = rw (add-one, drop-cons f i 0 h, lt-ltb (digitOf (getD f i 0)) base l)
+
+  pub number-stops : base ≤ digitOf (getD f i 0) → numberFrom base max v (drop i f) ≡ NoNumber
+  unfolding numberFrom
+  number-stops l = rw (drop-cons f i 0 h, le-ltb (digitOf (getD f i 0)) base l)
+
+  pub number-large : 0 < base → max < v * base + digitOf (getD f i 0) → numberFrom base max v (drop i f) ≡ NoNumber
+  unfolding numberFrom
+  number-large p l =
+      let x = getD f i 0 in
+      let r = drop (suc i) f in
+      let g : max < valueFrom base v (x ∷ r) = lt-of-lt-of-le l (value-grows base p (v * base + digitOf x) r) in
+      rw (drop-cons f i 0 h, lt-leb (valueFrom base v (x ∷ r)) max g) (none-past (every (λ b. ltb (digitOf b) base) (x ∷ r)) _ _)
+
+-- a loop that writes digits from the last: one digit more before those that stand from at + 1 on
+pub digits-next : (at left : ℕ) (bytes : List ℕ) → 10 ≤ left → left < 10 ^ suc at → at < length bytes → decimalDigits (suc at) left ++ drop (suc at) bytes ≡ decimalDigits (suc (at - 1)) (left / 10) ++ drop (suc (at - 1)) (set bytes at (digitByte (left % 10)))
+digits-next zero left bytes t l h = let e : 10 ^ 1 ≡ 10 = refl in let f : ⊥ = omega (arith, e) in absurd f
+digits-next (suc a) left bytes t l h =
+    let e : a ≡ suc a - 1 = omega arith in
+    rw (le-ltb left 10 t) (append-assoc (decimalDigits (suc a) (left / 10)) (digitByte (left % 10) ∷ []) (drop (suc (suc a)) bytes))
+    ∙ ap (λ (z : List ℕ). decimalDigits (suc a) (left / 10) ++ z) (sym (drop-set bytes (suc a) (digitByte (left % 10)) h))
+    ∙ ap (λ (k : ℕ). decimalDigits (suc k) (left / 10) ++ drop (suc k) (set bytes (suc a) (digitByte (left % 10)))) e
+
+pub less-left : (at left : ℕ) → 10 ≤ left → left < 10 ^ suc at → (0 < at) × (left / 10 < 10 ^ suc (at - 1))
+less-left zero left t l = let e : 10 ^ 1 ≡ 10 = refl in let f : ⊥ = omega (arith, e) in absurd f
+less-left (suc a) left t l =
+    let e : suc (suc a - 1) ≡ suc a = omega arith in
+    (omega arith, rw e (div-lt-iff-lt-mul {k = 10} {x = left} {y = 10 ^ suc a} (omega arith) .1 (subst (λ (n : ℕ). left < n) (pow-suc 10 (suc a)) l)))
+
+pub digits-last : (at left : ℕ) (bytes : List ℕ) → left < 10 → at < length bytes → drop at (set bytes at (digitByte left)) ≡ decimalDigits (suc at) left ++ drop (suc at) bytes
+digits-last at left bytes t h = drop-set bytes at (digitByte left) h ∙ sym (rw (lt-ltb left 10 t))
+
+-- how many digits a number has
+pub decimal-long : (n : ℕ) → length (decimalText n) ≤ 10
+unfolding decimalText
+decimal-long n = long 10 n
+  where
+    long : (k m : ℕ) → length (decimalDigits k m) ≤ k
+    long zero m = zero-le
+    long (suc k) m = go (ltb m 10) (long k (m / 10))
+      where
+        go : (b : Bool) → length (decimalDigits k (m / 10)) ≤ k → length (cond b (digitByte m ∷ []) (decimalDigits k (m / 10) ++ (digitByte (m % 10) ∷ []))) ≤ suc k
+        go true h = omega arith
+        go false h = simp length-append (omega arith)
+
+pub decimal-short : (j n : ℕ) → n < 10 ^ suc j → length (decimalText n) ≤ suc j
+unfolding decimalText
+decimal-short j n h = short 10 j n h
+  where
+    short : (k i m : ℕ) → m < 10 ^ suc i → length (decimalDigits k m) ≤ suc i
+    short zero i m l = zero-le
+    short (suc k) zero m l = let e : 10 ^ 1 ≡ 10 = refl in rw (lt-ltb m 10 (omega (arith, e))) (le-refl 1)
+    short (suc k) (suc i) m l = go (ltb m 10) (short k i (m / 10) (div-lt-iff-lt-mul {k = 10} {x = m} {y = 10 ^ suc i} (omega arith) .1 (subst (λ (x : ℕ). m < x) (pow-suc 10 (suc i)) l)))
+      where
+        go : (b : Bool) → length (decimalDigits k (m / 10)) ≤ suc i → length (cond b (digitByte m ∷ []) (decimalDigits k (m / 10) ++ (digitByte (m % 10) ∷ []))) ≤ suc (suc i)
+        go true r = omega arith
+        go false r = simp length-append (omega arith)
+
+-- how large a number is that is read
+pub both : (a b : Bool) → (a && b) ≡ true → (a ≡ true) × (b ≡ true)
+both true b h = (refl, h)
+both false b h = absurd (false≢true h)
+
+value-below : (base v : ℕ) (f : List ℕ) → every (λ b. ltb (digitOf b) base) f ≡ true → valueFrom base v f < suc v * base ^ length f
+value-below base v [] h = rw (pow-zero base, mul-one (suc v)) (le-refl (suc v))
+value-below base v (b ∷ bs) h =
+    let t = both (ltb (digitOf b) base) (every (λ x. ltb (digitOf x) base) bs) h in
+    let d : digitOf b < base = ltb-true (digitOf b) base (t .0) in
+    let m : suc (v * base + digitOf b) ≤ suc v * base = omega (arith, suc-mul v base) in
+    let e : suc v * base * base ^ length bs ≡ suc v * base ^ suc (length bs) = mul-assoc (suc v) base (base ^ length bs) ∙ ap (λ (n : ℕ). suc v * n) (sym (pow-succ' base (length bs))) in
+    lt-of-lt-of-le (value-below base (v * base + digitOf b) bs (t .1)) (subst (λ (n : ℕ). suc (v * base + digitOf b) * base ^ length bs ≤ n) e (mul-le-mul-right (base ^ length bs) m))
+
+pub hex-below : (k : ℕ) (f : List ℕ) → orZero (hexOf k f) < 16 ^ k
+unfolding hexOf numberFrom
+hex-below k f = go (eqb (length f) k) refl (every (λ b. ltb (digitOf b) 16) f) refl (leb (valueFrom 16 0 f) 18446744073709551615)
+  where
+    some : 0 < 16 ^ k
+    some = one-le-pow k 16 (omega arith)
+
+    go : (b : Bool) → eqb (length f) k ≡ b → (e : Bool) → every (λ x. ltb (digitOf x) 16) f ≡ e → (l : Bool) → orZero (cond b (cond (e && l) (Number (valueFrom 16 0 f)) NoNumber) NoNumber) < 16 ^ k
+    go false p e q l = some
+    go true p false q l = some
+    go true p true q false = some
+    go true p true q true = subst (λ (n : ℕ). valueFrom 16 0 f < 16 ^ n) (eqb-true (length f) k p) (subst (λ (n : ℕ). valueFrom 16 0 f < n) (one-mul (16 ^ length f)) (value-below 16 0 f q))
+
+pub decimal-most : (max : ℕ) (f : List ℕ) → orZero (decimalOf max f) ≤ max
+unfolding decimalOf numberFrom
+decimal-most max f = go (ltb 0 (length f) && (leb (length f) 1 || not (eqb (getD f 0 0) 48))) (every (λ b. ltb (digitOf b) 10) f) (leb (valueFrom 10 0 f) max) refl
+  where
+    go : (b e l : Bool) → leb (valueFrom 10 0 f) max ≡ l → orZero (cond b (cond (e && l) (Number (valueFrom 10 0 f)) NoNumber) NoNumber) ≤ max
+    go false e l p = zero-le
+    go true false l p = zero-le
+    go true true false p = zero-le
+    go true true true p = leb-true (valueFrom 10 0 f) max p

@@ -1,0 +1,2 @@
+pub mod YardList
+pub mod Steps
