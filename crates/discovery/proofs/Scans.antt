@@ -9,7 +9,7 @@ use lib.Dec.{ltb, eqb}
 use lib.ListN.{length, take, getD, length-append}
 use lib.Seq.{take-all, take-append-le, length-take-le}
 use Rattle.lists.specs.Lists.{select}
-use Rattle.lists.proofs.Collect.{flatMap-append, flatMap-next, select-flatMap, length-flatMap}
+use Rattle.lists.proofs.Collect.{flatMap-next, select-flatMap, length-flatMap}
 use Rattle.nib.specs.Neighbors.{tableOf, pushed}
 use Rattle.nib.specs.declared.Neighbor.{Neighbor}
 use Rattle.nib.specs.declared.Neighbor.the-variants.{Absent, Entry}
@@ -34,10 +34,6 @@ noDescriptor =
 
 abbrev entriesFrom : PanDescriptor → List NwkNeighbor
 entriesFrom d = present (neighborOf d)
-
-pub neighbors-append : (ds es : List PanDescriptor) → neighborsOf (ds ++ es) ≡ neighborsOf ds ++ neighborsOf es
-unfolding neighborsOf
-neighbors-append = flatMap-append entriesFrom
 
 -- one descriptor more
 pub neighbors-next : (ds : List PanDescriptor) (i : ℕ) (d : PanDescriptor) → i < length ds → neighborsOf (take (i + 1) ds) ≡ neighborsOf (take i ds) ++ present (neighborOf (getD ds i d))

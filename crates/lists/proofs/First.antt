@@ -3,7 +3,6 @@ use Prim.Native.Nat.{ℕ, suc, _+_, _<_, _≤_, zero-le, suc-le-suc}
 use mathlib.Core.Path.{_≡_, refl}
 use mathlib.Core.Bool.{Bool, true, false, cond}
 use mathlib.Core.List.{List, [], _∷_}
-use native.Mathlib.Nat.{le-of-suc-le-suc, not-suc-le-zero}
 use native.Mathlib.Numerals.{add-one}
 use lib.ListN.{length, drop, getD}
 use lib.Seq.{drop-cons}
@@ -24,15 +23,6 @@ module _ {A : Type 0} (p : A → Bool) where
       go : (b : Bool) {n m : ℕ} → n ≤ m → cond b 0 (suc n) ≤ suc m
       go true h = zero-le
       go false h = suc-le-suc h
-
-  -- where an element passes, the one at the first index does
-  pub first-passes : (l : List A) (d : A) → firstIndex p l < length l → p (getD l (firstIndex p l) d) ≡ true
-  first-passes [] d h = absurd (not-suc-le-zero h)
-  first-passes (x ∷ xs) d h = go (p x) refl (first-passes xs d) h
-    where
-      go : (b : Bool) → p x ≡ b → (firstIndex p xs < length xs → p (getD xs (firstIndex p xs) d) ≡ true) → cond b 0 (suc (firstIndex p xs)) < suc (length xs) → p (getD (x ∷ xs) (cond b 0 (suc (firstIndex p xs))) d) ≡ true
-      go true e k h = e
-      go false e k h = k (le-of-suc-le-suc h)
 
   -- a change of the first that passes, one element at a time
   pub first-change : (f : A → A) (x : A) (xs : List A) → changeAt (firstIndex p (x ∷ xs)) f (x ∷ xs) ≡ cond (p x) (f x ∷ xs) (x ∷ changeAt (firstIndex p xs) f xs)

@@ -128,9 +128,6 @@ module _ {A : Type 0} where
   pub over-take : (base l : List A) → take (length l) (over base l) ≡ l
   over-take base l = take-at l (drop (length l) base) (length l) refl
 
-  pub over-long : (base l : List A) → length l ≤ length base → length (over base l) ≡ length base
-  over-long base l h = simp (length-append, length-drop) (omega arith)
-
 -- the length of an array whose elements are structs, from what owning it tells
 pub length-mapped : (X Y : Type 0) (f : X → Y) (l : List X) (n : ℕ) → length (map f l) ≡ n → length l ≡ n
 length-mapped X Y f l n p = sym (length-map l f) ∙ p
