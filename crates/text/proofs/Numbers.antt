@@ -12,7 +12,7 @@ use lib.ListN.{length, drop, getD, set, length-append}
 use lib.Seq.{drop-cons}
 use Rattle.lists.specs.Lists.{every}
 use Rattle.lists.proofs.Bytes.{drop-set}
-use Rattle.text.specs.Text.{digitOf, valueFrom, numberFrom, decimalOf, hexOf, orZero, digitByte, decimalDigits, decimalText}
+use Rattle.text.specs.Text.{digitOf, valueFrom, numberFrom, decimalOf, hexOf, orZero, digitByte, decimalDigits, decimalText, hexText}
 use Rattle.text.specs.declared.OptionalNumber.{OptionalNumber}
 use Rattle.text.specs.declared.OptionalNumber.the-variants.{NoNumber, Number}
 
@@ -68,7 +68,22 @@ less-left (suc a) left t l =
 pub digits-last : (at left : ℕ) (bytes : List ℕ) → left < 10 → at < length bytes → drop at (set bytes at (digitByte left)) ≡ decimalDigits (suc at) left ++ drop (suc at) bytes
 digits-last at left bytes t h = drop-set bytes at (digitByte left) h ∙ sym (rw (lt-ltb left 10 t))
 
+-- a loop that writes hexadecimal digits from the last, down to a place: one digit more before those that stand from at on
+pub hex-next : (from at left : ℕ) (bytes : List ℕ) → from < at → at ≤ length bytes → hexText (at - from) left ++ drop at bytes ≡ hexText (at - 1 - from) (left / 16) ++ drop (at - 1) (set bytes (at - 1) (digitByte (left % 16)))
+hex-next from zero left bytes t h = let f : ⊥ = omega arith in absurd f
+hex-next from (suc a) left bytes t h =
+    let e : a ≡ suc a - 1 = omega arith in
+    let d : suc a - from ≡ suc (a - from) = omega arith in
+    ap (λ (k : ℕ). hexText k left ++ drop (suc a) bytes) d
+    ∙ append-assoc (hexText (a - from) (left / 16)) (digitByte (left % 16) ∷ []) (drop (suc a) bytes)
+    ∙ ap (λ (z : List ℕ). hexText (a - from) (left / 16) ++ z) (sym (drop-set bytes a (digitByte (left % 16)) h))
+    ∙ ap (λ (k : ℕ). hexText (k - from) (left / 16) ++ drop k (set bytes k (digitByte (left % 16)))) e
+
 -- how many digits a number has
+pub hex-long : (k n : ℕ) → length (hexText k n) ≡ k
+hex-long zero n = refl
+hex-long (suc k) n = length-append (hexText k (n / 16)) (digitByte (n % 16) ∷ []) ∙ omega (arith, hex-long k (n / 16))
+
 pub decimal-long : (n : ℕ) → length (decimalText n) ≤ 10
 unfolding decimalText
 decimal-long n = long 10 n

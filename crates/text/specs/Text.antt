@@ -1,5 +1,7 @@
 -- Parts of a line, numbers that are read and numbers that are written (01, "The yard list"). A text is the list of its bytes.
 use Prim.Native.Nat.{ℕ, zero, suc, _+_, _-_, _*_, _/_, _%_}
+use Prim.Native.Char.{code}
+use Prim.Native.String.{String, [] as []ˢ, _∷_ as _∷ˢ_}
 use mathlib.Core.Bool.{Bool, true, false, cond, not, _&&_, _||_}
 use mathlib.Core.List.{List, [], _∷_, _++_}
 use lib.Dec.{eqb, ltb, leb}
@@ -7,6 +9,11 @@ use lib.ListN.{length, getD}
 use Rattle.lists.specs.Lists.{foldl, every}
 use Rattle.text.specs.declared.OptionalNumber.{OptionalNumber}
 use Rattle.text.specs.declared.OptionalNumber.the-variants.{NoNumber, Number}
+
+-- the bytes of a text that is written down
+abbrev pub bytes : String → List ℕ
+bytes []ˢ = []
+bytes (c ∷ˢ s) = code c ∷ bytes s
 
 -- a byte before the first of the parts
 abbrev pub ontoFirst : ℕ → List (List ℕ) → List (List ℕ)

@@ -220,18 +220,33 @@ pub fn write_decimal(out: &mut [u8], at: usize, n: u32) -> usize
     write(out, at, &bytes[a..])
 }
 
-// Writes a number of 16 bits as four hexadecimal digits at a place, as far as they fit, and returns 4.
-pub fn write_hex(out: &mut [u8], at: usize, n: u16) -> usize
-    ensures { λ r. ⌜ (r ≡ 4) × (now (out .exit) ≡ sets (now (out .entry)) at (hexText 4 n)) ⌝ }
+// Where the last `digits` of sixteen bytes begin.
+fn last_of_sixteen(digits: usize) -> usize
+    ensures { λ r. ⌜ r ≡ 16 - digits ⌝ }
 {
-    let third = n / 16;
-    let second = third / 16;
-    let first = second / 16;
-    let bytes = [
-        digit_byte((first % 16) as u8),
-        digit_byte((second % 16) as u8),
-        digit_byte((third % 16) as u8),
-        digit_byte((n % 16) as u8),
-    ];
-    write(out, at, &bytes)
+    if digits <= 16 { 16 - digits } else { 0 }
+}
+
+// The last hexadecimal digits of a number, in sixteen bytes from a place to the end.
+fn fill_hex(bytes: &mut [u8], from: usize, n: u64)
+    requires { ⌜ (length (now bytes) ≡ 16) × (from ≤ 16) ⌝ }
+    ensures { λ r. ⌜ drop from (now (bytes .exit)) ≡ hexText (16 - from) n ⌝ }
+{
+    let mut at = 16;
+    let mut left = n;
+    while from < at {
+        at -= 1;
+        bytes[at] = digit_byte((left % 16) as u8);
+        left = left / 16;
+    }
+}
+
+// Writes the last hexadecimal digits of a number, so many but at most 16, at a place as far as they fit, and returns how many.
+pub fn write_hex(out: &mut [u8], at: usize, n: u64, digits: usize) -> usize
+    ensures { λ r. ⌜ (r ≡ length (hexText (min digits 16) n)) × (now (out .exit) ≡ sets (now (out .entry)) at (hexText (min digits 16) n)) ⌝ }
+{
+    let mut bytes = [0u8; 16];
+    let from = last_of_sixteen(digits);
+    fill_hex(&mut bytes, from, n);
+    write(out, at, &bytes[from..])
 }

@@ -12,7 +12,7 @@ use lib.ListN.{length, take, drop, getD, length-drop}
 use lib.Seq.{take-all, take-take, take-add, drop-at, length-take-le}
 use Rattle.lists.specs.Lists.{firstIndex, All}
 use Rattle.lists.proofs.First.{first-le}
-use Rattle.text.specs.Text.{parts, fields}
+use Rattle.text.specs.Text.{bytes, parts, fields}
 use Rattle.text.proofs.Numbers.{both}
 use Rattle.text.proofs.Parts.{parts-some, parts-first, parts-only}
 use Rattle.text.proofs.Sizes.{same-size, hex-size, decimal-size, total, total-parts}
@@ -35,8 +35,8 @@ Narrow (Hex k) = Unit {0}
 Narrow (Decimal max) = max < 1000
 
 fit-size : (m : Form) (f : List ℕ) → Narrow m → fits m f ≡ true → length f ≤ most m
-fit-size RequestWord f n h = omega (arith, same-size f (114 ∷ 101 ∷ 113 ∷ 117 ∷ 101 ∷ 115 ∷ 116 ∷ []) h)
-fit-size EntryWord f n h = omega (arith, same-size f (110 ∷ []) h)
+fit-size RequestWord f n h = omega (arith, same-size f (bytes "request") h)
+fit-size EntryWord f n h = omega (arith, same-size f (bytes "n") h)
 fit-size (Hex k) f n h = omega (arith, hex-size k f h)
 fit-size (Decimal max) f n h = go (ltb max 10) refl
   where

@@ -9,14 +9,14 @@ use Rattle.nib.specs.declared.NwkNeighbor.{NwkNeighbor}
 use Rattle.nib.specs.declared.DeviceType.{DeviceType}
 use Rattle.nib.specs.declared.DeviceType.the-variants.{Coordinator, Router}
 use Rattle.candidates.specs.Candidates.{candidates}
-use Rattle.text.specs.Text.{parts, fields, sameText, decimalOf, hexOf, orZero, isNumber, decimalText, hexText}
+use Rattle.text.specs.Text.{bytes, parts, fields, sameText, decimalOf, hexOf, orZero, isNumber, decimalText, hexText}
 use Rattle.yard_list.specs.declared.Form.{Form}
 use Rattle.yard_list.specs.declared.Form.the-variants.{RequestWord, EntryWord, Hex, Decimal}
 
 -- a field has a form: the word `request`, the word `n`, so many hexadecimal digits, or a decimal number of at most so much
 abbrev pub fits : Form → List ℕ → Bool
-fits RequestWord f = sameText f (114 ∷ 101 ∷ 113 ∷ 117 ∷ 101 ∷ 115 ∷ 116 ∷ [])
-fits EntryWord f = sameText f (110 ∷ [])
+fits RequestWord f = sameText f (bytes "request")
+fits EntryWord f = sameText f (bytes "n")
 fits (Hex digits) f = isNumber (hexOf digits f)
 fits (Decimal max) f = isNumber (decimalOf max f)
 
@@ -110,14 +110,14 @@ abbrev pub rowsFrom : List NwkNeighbor → ℕ → List ℕ → List ℕ
 rowsFrom es place [] = []
 rowsFrom es place (i ∷ is) = rowOf (getD es i blank) place i ++ rowsFrom es (suc place) is
 
--- `place`, `index`, `address`, `channel`, `depth`
+-- the first line
 abbrev pub header : List ℕ
 header =
-    cell (112 ∷ 108 ∷ 97 ∷ 99 ∷ 101 ∷ []) 9
-    ++ (cell (105 ∷ 110 ∷ 100 ∷ 101 ∷ 120 ∷ []) 9
-    ++ (cell (97 ∷ 100 ∷ 100 ∷ 114 ∷ 101 ∷ 115 ∷ 115 ∷ []) 9
-    ++ (cell (99 ∷ 104 ∷ 97 ∷ 110 ∷ 110 ∷ 101 ∷ 108 ∷ []) 9
-    ++ cell (100 ∷ 101 ∷ 112 ∷ 116 ∷ 104 ∷ []) 10)))
+    cell (bytes "place") 9
+    ++ (cell (bytes "index") 9
+    ++ (cell (bytes "address") 9
+    ++ (cell (bytes "channel") 9
+    ++ cell (bytes "depth") 10)))
 
 -- the header, and a line for each candidate, place from 1
 unfoldable pub listText : List (List ℕ) → List ℕ
@@ -126,7 +126,7 @@ listText (l ∷ ls) = header ++ rowsFrom (entriesIn ls) 1 (chosen (fields l) (en
 
 -- `bad`, tab, a line's number, line feed
 unfoldable pub badText : ℕ → List ℕ
-badText n = 98 ∷ 97 ∷ 100 ∷ cell (9 ∷ decimalText n) 10
+badText n = bytes "bad" ++ (9 ∷ cell (decimalText n) 10)
 
 -- the lines of a text that are ended by a line feed, and what stands after the last line feed
 abbrev pub endedLines : List ℕ → List (List ℕ)

@@ -293,7 +293,7 @@ fn write_address(out: &mut [u8], at: usize, address: u16) -> usize
     requires { ⌜ at ≤ 1000 ⌝ }
     ensures { λ r. ⌜ (r ≡ 5) × (now (out .exit) ≡ sets (now (out .entry)) at (cell (hexText 4 address) 9)) ⌝ }
 {
-    text::write_hex(out, at, address);
+    text::write_hex(out, at, address as u64, 4);
     text::write(out, at + 4, b"\t");
     5
 }

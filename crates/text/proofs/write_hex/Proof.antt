@@ -1,35 +1,31 @@
 -- `write_hex` meets its contract. Assumes nothing.
-use mathlib.Core.Path.{_∙_}
+use native.Mathlib.Omega.{arith}
+use Prim.Native.Nat.{ℕ, _-_, _≤_, min}
+use mathlib.Core.Path.{_≡_, ap, _∙_}
+use lib.ListN.{length, take, drop, length-drop}
+use lib.Seq.{sets, take-all}
+use Rattle.text.specs.Text.{hexText}
 use borrow.Author.Needs.{needs}
 use Rattle.text.proofs.write_hex.Statement.{statement}
 use Rattle.text.proofs.write_hex.Tie as tie
 
-cast-digit-byte : tie.Need-cast-digit-byte
-cast-digit-byte c = search needs
+last-of-sixteen-requires : tie.Need-last-of-sixteen-requires
+last-of-sixteen-requires c κs = search needs
 
-digit-byte-requires : tie.Need-digit-byte-requires
-digit-byte-requires c κs = search needs
+slice-aggregate-fill-hex : tie.Need-slice-aggregate-fill-hex
+slice-aggregate-fill-hex c = search needs
 
-cast-digit-byte-2 : tie.Need-cast-digit-byte-2
-cast-digit-byte-2 c = search needs
+fill-hex-requires : tie.Need-fill-hex-requires
+fill-hex-requires c κs = search needs
 
-digit-byte-requires-2 : tie.Need-digit-byte-requires-2
-digit-byte-requires-2 c κs = search needs
+sub-write : tie.Need-sub-write
+sub-write c = search needs
 
-cast-digit-byte-3 : tie.Need-cast-digit-byte-3
-cast-digit-byte-3 c = search needs
+part-write-start : tie.Need-part-write-start
+part-write-start c = search needs
 
-digit-byte-requires-3 : tie.Need-digit-byte-requires-3
-digit-byte-requires-3 c κs = search needs
-
-cast-digit-byte-4 : tie.Need-cast-digit-byte-4
-cast-digit-byte-4 c = search needs
-
-digit-byte-requires-4 : tie.Need-digit-byte-requires-4
-digit-byte-requires-4 c κs = search needs
-
-slice-aggregate-write : tie.Need-slice-aggregate-write
-slice-aggregate-write c = search needs
+part-write-end : tie.Need-part-write-end
+part-write-end c = search needs
 
 write-requires : tie.Need-write-requires
 write-requires c κs = search needs
@@ -40,25 +36,26 @@ same-length c = search needs
 returns : tie.Need-returns
 returns c =
     let w = c .before .before .write in
-    let d1 = c .before .before .before .before .before .before .before .before .digit-byte .ensures in
-    let d2 = c .before .before .before .before .before .before .before .digit-byte2 .ensures in
-    let d3 = c .before .before .before .before .before .before .digit-byte3 .ensures in
-    let d4 = c .before .before .before .before .before .digit-byte4 .ensures in
-    (w .ensures .0, w .ensures .1 ∙ rw (d1, d2, d3, d4))
+    let f = c .before .before .before .before .before .before .before .fill-hex in
+    let l = c .before .before .before .before .before .before .before .before .before .last-of-sixteen in
+    let a = c .before .before .before .before .before .before .before .before .before .before .before .args in
+    let x = f .last .0 in
+    let n : length x ≡ 16 = search needs in
+    let h : length (drop (l .result) x) ≤ 16 - l .result = omega (arith, length-drop (l .result) x) in
+    let m : 16 - l .result ≡ min (a .digits) 16 = omega (arith, l .ensures) in
+    let e : take (16 - l .result) (drop (l .result) x) ≡ hexText (min (a .digits) 16) (a .n) = take-all (16 - l .result) (drop (l .result) x) h ∙ f .ensures ∙ ap (λ (k : ℕ). hexText k (a .n)) m in
+    (w .ensures .0 ∙ ap length e, w .ensures .1 ∙ ap (sets (a .out .now) (a .at)) e)
 
 pub write-hex-spec : {M : Type 1} → statement M
 write-hex-spec =
     tie.close
     (tie.spec
-    cast-digit-byte
-    digit-byte-requires
-    cast-digit-byte-2
-    digit-byte-requires-2
-    cast-digit-byte-3
-    digit-byte-requires-3
-    cast-digit-byte-4
-    digit-byte-requires-4
-    slice-aggregate-write
+    last-of-sixteen-requires
+    slice-aggregate-fill-hex
+    fill-hex-requires
+    sub-write
+    part-write-start
+    part-write-end
     write-requires
     same-length
     returns)

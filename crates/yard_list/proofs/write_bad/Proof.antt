@@ -1,12 +1,10 @@
 -- `write_bad` meets its contract. Assumes nothing.
-
--- `write_bad` meets its contract. Assumes nothing.
 use native.Mathlib.Omega.{arith}
 use mathlib.Core.Path.{refl}
-use mathlib.Core.List.{[], _∷_}
+use mathlib.Core.List.{[], _∷_, _++_}
 use lib.ListN.{length-append}
 use Rattle.lists.proofs.Bytes.{sets-join}
-use Rattle.text.specs.Text.{decimalText}
+use Rattle.text.specs.Text.{bytes, decimalText}
 use Rattle.text.proofs.Numbers.{decimal-long}
 use Rattle.yard_list.specs.YardList.{cell, badText}
 use borrow.Author.Needs.{needs}
@@ -40,7 +38,7 @@ returns c =
     let d = c .before .before .write-number in
     let a = c .before .before .before .before .before .before .before .before .before .before .args in
     let t = cell (decimalText (a .number)) 10 in
-    (omega (arith, d .ensures .0), sets-join (a .out .now) 0 4 (98 ∷ 97 ∷ 100 ∷ 9 ∷ []) t (w .ensures .1) (d .ensures .1) refl)
+    (omega (arith, d .ensures .0), sets-join (a .out .now) 0 4 (bytes "bad" ++ (9 ∷ [])) t (w .ensures .1) (d .ensures .1) refl)
 
 pub write-bad-spec : {M : Type 1} → statement M
 write-bad-spec =

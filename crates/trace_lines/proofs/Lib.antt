@@ -1,0 +1,5 @@
+pub mod Zips
+pub mod Places
+pub mod Texts
+pub mod Lines
+pub mod Tables
