@@ -11,10 +11,10 @@ use zigbee_mac::mlme::{AssociationResponse, MacConfig, MacError, Mlme, ScanResul
 use zigbee_mac::{Address, AssociationStatus, CapabilityInformation};
 use zigbee_types::{IeeeAddress, ShortAddress};
 
+use crate::driver::descriptor;
 use crate::nwk::nib;
 use crate::nwk::nlme::Nlme;
 use crate::nwk::nlme::management::{NlmeJoinRequest, NlmeJoinStatus, RejoinNetwork};
-use crate::driver::descriptor;
 use crate::trace::{Beacon, BeaconAddress};
 
 /// Answers every request the same way; pending once for each when `PENDING`, so that each outcome costs a poll of the operation's future.
@@ -27,10 +27,7 @@ impl<const PENDING: bool> BenchMac<PENDING> {
     async fn turn(&self) {
         self.requests.set(self.requests.get() + 1);
         let mut waited = !PENDING;
-        poll_fn(|_| {
-            if core::mem::replace(&mut waited, true) { Poll::Ready(()) } else { Poll::Pending }
-        })
-        .await;
+        poll_fn(|_| if core::mem::replace(&mut waited, true) { Poll::Ready(()) } else { Poll::Pending }).await;
     }
 }
 
@@ -41,12 +38,7 @@ impl<const PENDING: bool> Mlme for BenchMac<PENDING> {
     async fn configure(&self, config: MacConfig) {
         black_box(config);
     }
-    async fn scan_network(
-        &self,
-        ty: ScanType,
-        _: core::ops::Range<u8>,
-        _: u8,
-    ) -> Result<ScanResult, MacError> {
+    async fn scan_network(&self, ty: ScanType, _: core::ops::Range<u8>, _: u8) -> Result<ScanResult, MacError> {
         self.turn().await;
         Ok(ScanResult { scan_type: ty, pan_descriptor: self.beacons.iter().map(descriptor).collect() })
     }

@@ -2,7 +2,7 @@
 use std::collections::{BTreeMap, BTreeSet};
 
 use crate::driver::Driver;
-use crate::trace::{Call, Entry, Frame, Outcome, Start};
+use crate::trace::{Bad, Call, Entry, Frame, Outcome, Start};
 
 #[derive(Default)]
 pub struct Reached {
@@ -24,11 +24,7 @@ impl Reached {
 
     /// A line for each tag: scenarios, times.
     pub fn together(&self) -> String {
-        let mut out = format!(
-            "scenarios\t{}\nmost outcomes of one operation\t{}\n",
-            self.scenarios.len(),
-            self.most_outcomes
-        );
+        let mut out = format!("scenarios\t{}\nmost outcomes of one operation\t{}\n", self.scenarios.len(), self.most_outcomes);
         for (tag, times) in &self.times {
             let scenarios = self.scenarios.iter().filter(|s| s.contains(tag)).count();
             out.push_str(&format!("{tag}\t{scenarios}\t{times}\n"));
@@ -92,11 +88,8 @@ fn choice(tags: &mut Reached, entries: &[Entry], profile: u8, epid: u64, permit:
         tags.add("choice: any network (0)");
     }
     for net in entries.iter().map(|e| e.epid) {
-        let ids: Vec<u8> = entries
-            .iter()
-            .filter(|e| e.epid == net && e.potential == 1 && (!permit || e.permit))
-            .map(|e| e.update_id)
-            .collect();
+        let ids: Vec<u8> =
+            entries.iter().filter(|e| e.epid == net && e.potential == 1 && (!permit || e.permit)).map(|e| e.update_id).collect();
         let newest = fold(ids.iter().copied());
         if newest != ids.iter().copied().max() {
             tags.add("choice: newest id isn't the largest of its network");
@@ -113,10 +106,10 @@ fn tries(log: &[String]) -> Vec<usize> {
     for l in log {
         if l.contains("\trejoinrequest\t") {
             list.push(0);
-        } else if l.starts_with("poll\t") {
-            if let Some(polls) = list.last_mut() {
-                *polls += 1;
-            }
+        } else if l.starts_with("poll\t")
+            && let Some(polls) = list.last_mut()
+        {
+            *polls += 1;
         }
     }
     list
@@ -185,7 +178,7 @@ fn confirm(tags: &mut Reached, op: &Op) {
     assert!(op.outcomes <= 698, "{} outcomes", op.outcomes);
 }
 
-pub fn cover(calls: &[(usize, Call)]) -> Result<Reached, (usize, String)> {
+pub fn cover(calls: &[(usize, Call)]) -> Result<Reached, Bad> {
     let mut tags = Reached::default();
     let mut s = Driver::new();
     let mut op = Op::default();
@@ -252,13 +245,16 @@ pub fn cover(calls: &[(usize, Call)]) -> Result<Reached, (usize, String)> {
                 op.log.extend(lines.iter().cloned());
                 match o {
                     Outcome::Scan(b) => {
-                        tags.add(format!("scan: {} beacons", match b.len() {
-                            0 => "0",
-                            1..=15 => "1..15",
-                            16 => "16",
-                            17..=26 => "17..26",
-                            _ => "27",
-                        }));
+                        tags.add(format!(
+                            "scan: {} beacons",
+                            match b.len() {
+                                0 => "0",
+                                1..=15 => "1..15",
+                                16 => "16",
+                                17..=26 => "17..26",
+                                _ => "27",
+                            }
+                        ));
                         if entries2.len() == 16 {
                             tags.add("scan: 16 short-addressed");
                         }
@@ -303,16 +299,14 @@ pub fn cover(calls: &[(usize, Call)]) -> Result<Reached, (usize, String)> {
                     Outcome::PollFail => tags.add(format!("poll: radio error in {}", op.name)),
                     Outcome::Frame(f) => {
                         frame(&mut tags, f, &op, &node, &entries, &v, &lines);
-                        if let Frame::RejoinResponse { status, .. } = f {
-                            if op.name == "rejoin" {
-                                let t = tries(&op.log[..op.log.len() - lines.len()]);
-                                tags.add(format!("rejoin: response at poll {:2}", t.last().unwrap()));
-                                tags.add(format!("rejoin: response status {status}"));
-                            }
-                        }
-                        if entries.len() == entries2.len()
-                            && entries.iter().zip(&entries2).any(|(a, b)| a.ieee != b.ieee)
+                        if let Frame::RejoinResponse { status, .. } = f
+                            && op.name == "rejoin"
                         {
+                            let t = tries(&op.log[..op.log.len() - lines.len()]);
+                            tags.add(format!("rejoin: response at poll {:2}", t.last().unwrap()));
+                            tags.add(format!("rejoin: response status {status}"));
+                        }
+                        if entries.len() == entries2.len() && entries.iter().zip(&entries2).any(|(a, b)| a.ieee != b.ieee) {
                             tags.add("frame: teaches an IEEE address");
                         }
                         if op.name == "rejoin" && entries2.len() < entries.len() && !entries2.is_empty() {
@@ -364,7 +358,7 @@ pub fn cover(calls: &[(usize, Call)]) -> Result<Reached, (usize, String)> {
             Call::TakeLeave | Call::TakeStatus => {
                 tags.add(format!("taken: {}", lines[0].split('\t').next().unwrap()));
             }
-            Call::Candidates { epid, router, permit } => {
+            Call::Candidates { epid, permit, .. } => {
                 let c: Vec<usize> = lines[0].split('\t').skip(1).map(|w| w.parse().unwrap()).collect();
                 choice(&mut tags, &entries, node.stack_profile, *epid, *permit, &c);
             }

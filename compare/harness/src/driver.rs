@@ -6,12 +6,10 @@ use core::task::{Context, Poll, Waker};
 use std::rc::Rc;
 
 use byte::{BytesExt, TryRead};
-use zigbee_mac::mlme::{
-    AssociationResponse, MacConfig, MacError, Mlme, ScanResult, ScanType, StackProfile, ZigbeeBeacon,
-};
+use zigbee_mac::mlme::{AssociationResponse, MacConfig, MacError, Mlme, ScanResult, ScanType, StackProfile, ZigbeeBeacon};
 use zigbee_mac::{
-    Address, AssociationStatus, BeaconOrder, CapabilityInformation, ExtendedAddress, MacShortAddress, PanId,
-    SuperframeOrder, SuperframeSpecification,
+    Address, AssociationStatus, BeaconOrder, CapabilityInformation, ExtendedAddress, MacShortAddress, PanId, SuperframeOrder,
+    SuperframeSpecification,
 };
 use zigbee_types::{ByteArray, IeeeAddress, ShortAddress};
 
@@ -47,10 +45,7 @@ impl Kind {
             (Kind::Scan, Outcome::Scan(_) | Outcome::ScanFail)
                 | (Kind::Associate, Outcome::Associate { .. } | Outcome::AssociateFail)
                 | (Kind::Transmit, Outcome::Sent | Outcome::SendFail)
-                | (
-                    Kind::Poll | Kind::Receive,
-                    Outcome::NoData | Outcome::PollFail | Outcome::Frame(_)
-                )
+                | (Kind::Poll | Kind::Receive, Outcome::NoData | Outcome::PollFail | Outcome::Frame(_))
         )
     }
 }
@@ -147,10 +142,7 @@ fn describe(payload: &[u8]) -> String {
 /// The bytes of a received frame.
 fn deliver(frame: &Frame, buf: &mut [u8]) -> usize {
     let header = |ty: FrameType, source: u16, source_ieee: Option<u64>, destination: u16| Header {
-        frame_control: FrameControl(0)
-            .set_frame_type(ty)
-            .set_protocol_version(2)
-            .set_source_ieee_flag(source_ieee.is_some()),
+        frame_control: FrameControl(0).set_frame_type(ty).set_protocol_version(2).set_source_ieee_flag(source_ieee.is_some()),
         destination: ShortAddress(destination),
         source: ShortAddress(source),
         radius: 1,
@@ -176,12 +168,9 @@ fn deliver(frame: &Frame, buf: &mut [u8]) -> usize {
             buf.write_with(offset, header(FrameType::Data, source, ieee, own), ()).unwrap();
             *offset
         }
-        Frame::RejoinResponse { source, ieee, address, status } => command(
-            source,
-            ieee,
-            own,
-            Command::RejoinResponse(RejoinResponse { network_address: ShortAddress(address), status }),
-        ),
+        Frame::RejoinResponse { source, ieee, address, status } => {
+            command(source, ieee, own, Command::RejoinResponse(RejoinResponse { network_address: ShortAddress(address), status }))
+        }
         Frame::TimeoutResponse { source, ieee, status, information } => command(
             source,
             ieee,
@@ -193,10 +182,7 @@ fn deliver(frame: &Frame, buf: &mut [u8]) -> usize {
             ieee,
             destination,
             Command::Leave(Leave {
-                command_options: CommandOptions(0)
-                    .set_request(request)
-                    .set_rejoin(rejoin)
-                    .set_remove_children(children),
+                command_options: CommandOptions(0).set_request(request).set_rejoin(rejoin).set_remove_children(children),
             }),
         ),
         Frame::Command { source, ieee } => {
@@ -210,13 +196,8 @@ fn deliver(frame: &Frame, buf: &mut [u8]) -> usize {
                 5 => Command::NetworkReport(rest),
                 6 => Command::NetworkUpdate(rest),
                 7 => Command::LinkPowerDelta(rest),
-                8 => Command::RejoinRequest(RejoinRequest {
-                    capability_information: rejoin_request::CapabilityInformation(0x80),
-                }),
-                9 => Command::EndDeviceTimeoutRequest(EndDeviceTimeoutRequest {
-                    requested_timeout: 3,
-                    end_device_configuration: 0,
-                }),
+                8 => Command::RejoinRequest(RejoinRequest { capability_information: rejoin_request::CapabilityInformation(0x80) }),
+                9 => Command::EndDeviceTimeoutRequest(EndDeviceTimeoutRequest { requested_timeout: 3, end_device_configuration: 0 }),
                 _ => Command::Reserved(0x7f),
             };
             command(source, ieee, own, c)
@@ -276,12 +257,7 @@ impl Mlme for ScriptMac {
     }
 
     async fn configure(&self, config: MacConfig) {
-        assert!(
-            config.pan_id.is_none()
-                && config.promiscuous.is_none()
-                && config.auto_ack_rx.is_none()
-                && config.auto_ack_tx.is_none()
-        );
+        assert!(config.pan_id.is_none() && config.promiscuous.is_none() && config.auto_ack_rx.is_none() && config.auto_ack_tx.is_none());
         if let Some(c) = config.channel {
             log(|| format!("setchannel\t{c}"));
         }
@@ -290,30 +266,17 @@ impl Mlme for ScriptMac {
         }
     }
 
-    async fn scan_network(
-        &self,
-        ty: ScanType,
-        channels: core::ops::Range<u8>,
-        duration: u8,
-    ) -> Result<ScanResult, MacError> {
+    async fn scan_network(&self, ty: ScanType, channels: core::ops::Range<u8>, duration: u8) -> Result<ScanResult, MacError> {
         assert_eq!(ty, ScanType::Active);
         log(|| format!("scan\t{}\t{}\t{duration}", channels.start, channels.end));
         match outcome(Kind::Scan).await {
-            Outcome::Scan(beacons) => Ok(ScanResult {
-                scan_type: ty,
-                pan_descriptor: beacons.iter().map(descriptor).collect(),
-            }),
+            Outcome::Scan(beacons) => Ok(ScanResult { scan_type: ty, pan_descriptor: beacons.iter().map(descriptor).collect() }),
             Outcome::ScanFail => Err(some_error()),
             o => unreachable!("{o:?}"),
         }
     }
 
-    async fn associate(
-        &self,
-        channel: u8,
-        dest: Address,
-        c: CapabilityInformation,
-    ) -> Result<AssociationResponse, MacError> {
+    async fn associate(&self, channel: u8, dest: Address, c: CapabilityInformation) -> Result<AssociationResponse, MacError> {
         log(|| {
             format!(
                 "associate\t{channel}\t{}\t{}\t{}\t{}\t{}\t{}",
@@ -427,15 +390,7 @@ async fn operate(nlme: Rc<Nlme<ScriptMac>>, start: Start) {
                     scan_duration: duration,
                 })
                 .await;
-            log(|| {
-                format!(
-                    "confirm\t{}\t{:04x}\t{:016x}\t{}",
-                    status_word(c.status),
-                    c.network_address.0,
-                    c.extended_pan_id.0,
-                    c.channel
-                )
-            });
+            log(|| format!("confirm\t{}\t{:04x}\t{:016x}\t{}", status_word(c.status), c.network_address.0, c.extended_pan_id.0, c.channel));
         }
         Start::Send { destination, secure } => {
             let r = nlme.send_data(ShortAddress(destination), secure, &[]).await;
@@ -443,11 +398,7 @@ async fn operate(nlme: Rc<Nlme<ScriptMac>>, start: Start) {
         }
         Start::Poll | Start::Receive => {
             let mut buf = [0u8; 128];
-            let r = if start == Start::Poll {
-                nlme.poll_nwk_frame(&mut buf).await
-            } else {
-                nlme.receive_nwk_frame(&mut buf).await
-            };
+            let r = if start == Start::Poll { nlme.poll_nwk_frame(&mut buf).await } else { nlme.receive_nwk_frame(&mut buf).await };
             let word = match &r {
                 Ok(Some(_)) => "Data",
                 Ok(None) => "Nothing",
@@ -713,15 +664,17 @@ impl Driver {
             update_id: e.update_id,
             pan_id: e.pan,
         };
-        nib::get_ref()
-            .update_neighbor_table(|t| t.push(neighbor))
-            .map_err(|_| "more than 16 `e` lines".to_string())
+        nib::get_ref().update_neighbor_table(|t| t.push(neighbor)).map_err(|_| "more than 16 `e` lines".to_string())
     }
 
     fn set_failure(&mut self, address: u16, count: u8) -> Result<(), String> {
         match &self.nlme {
             Some(nlme) if self.setting_up => {
-                if nlme.probe_failure(address, count) { Ok(()) } else { Err("more than 16 `f` lines".to_string()) }
+                if nlme.probe_failure(address, count) {
+                    Ok(())
+                } else {
+                    Err("more than 16 `f` lines".to_string())
+                }
             }
             _ => Err("an `f` line not directly behind `node`".to_string()),
         }

@@ -1,5 +1,5 @@
 //! The network layer of zigbee-rs, driven by a trace: what it answers, traces to ask it, and what they reach.
-#![allow(unexpected_cfgs, dead_code, unused_imports, unused_variables, async_fn_in_trait)]
+#![allow(unexpected_cfgs)] // the source's features, all off
 
 #[macro_use]
 mod probe;
@@ -7,6 +7,7 @@ mod bench;
 mod cover;
 mod driver;
 mod hooks;
+#[allow(dead_code, unused_imports, unused_variables, async_fn_in_trait, unknown_lints)]
 mod nwk;
 mod pairs;
 mod scenarios;
@@ -22,7 +23,7 @@ const USAGE: &str = "usage: harness run < in > out
        harness pairs first|second SEED N [FROM] [leaves|requests|notifications] > in
        harness cover [each] < in
        harness bench
-       harness work choice|join|rejoin TIMES
+       harness work choice|join|rejoin|scan TIMES
        harness selfcheck";
 
 // What isn't UTF-8 stands in no good line, so it may be replaced.

@@ -1,9 +1,9 @@
 //! Pairs of traces: two nodes in equal states whose scans differ only in other networks' beacons (document 01, "Two nodes").
+use crate::driver::{Driver, Kind};
 use crate::scenarios::{
-    CAPABILITIES, EPIDS, Flavour, IEEES, INDEXES, OWN, OWN_IEEES, PANS, Rng, SEQUENCES, SHORTS, TICKS, TIMERS,
-    UPDATE_IDS, beacon, entry, stray,
+    CAPABILITIES, EPIDS, Flavour, IEEES, INDEXES, OWN, OWN_IEEES, PANS, Rng, SEQUENCES, SHORTS, TICKS, TIMERS, UPDATE_IDS, beacon, entry,
+    stray,
 };
-use crate::driver::{Kind, Driver};
 use crate::trace::{Beacon, BeaconAddress, Call, Entry, Frame, Node, Outcome, Start};
 
 // a call of the list; a scan may differ between the two
@@ -127,12 +127,7 @@ fn frame(r: &mut Rng, s: &Driver, leaves: Leaves, respond: u64) -> Outcome {
         3 => Outcome::Frame(Frame::Data { source, ieee }),
         4 => Outcome::Frame(Frame::Command { source, ieee }),
         5 => Outcome::Frame(Frame::Other),
-        _ => Outcome::Frame(Frame::TimeoutResponse {
-            source,
-            ieee,
-            status: r.pick(&[0, 1]),
-            information: r.pick(&[0, 3]),
-        }),
+        _ => Outcome::Frame(Frame::TimeoutResponse { source, ieee, status: r.pick(&[0, 1]), information: r.pick(&[0, 3]) }),
     }
 }
 
@@ -232,8 +227,7 @@ fn pair(r: &mut Rng, s: &mut Driver, leaves: Leaves) -> Vec<Both> {
     let between = r.pick(&[0, 100, 500]);
     let strays = r.pick(&[0, 0, 50, 200]);
     let mut begun = false;
-    let (fail, respond, associated) =
-        (r.pick(&[0, 100, 500]), r.pick(&[0, 20, 100, 400]), r.pick(&[0, 100, 300]));
+    let (fail, respond, associated) = (r.pick(&[0, 100, 500]), r.pick(&[0, 20, 100, 400]), r.pick(&[0, 100, 300]));
     let stop = r.chance(100);
     loop {
         // the list begins with a start
@@ -271,9 +265,7 @@ fn pair(r: &mut Rng, s: &mut Driver, leaves: Leaves) -> Vec<Both> {
             } else {
                 Outcome::Associate { status: r.pick(&[1, 2, 3, 240]), address: 0xffff, ieee: 0 }
             })),
-            Kind::Transmit => {
-                Both::same(Call::Outcome(if r.chance(fail) { Outcome::SendFail } else { Outcome::Sent }))
-            }
+            Kind::Transmit => Both::same(Call::Outcome(if r.chance(fail) { Outcome::SendFail } else { Outcome::Sent })),
             Kind::Poll | Kind::Receive => Both::same(Call::Outcome(frame(r, s, leaves, respond))),
         };
         put(&mut list, s, both);

@@ -20,12 +20,7 @@ pub struct Volatile {
 macro_rules! probe {
     () => {
         impl<M: Mlme> Nlme<M> {
-            pub(crate) fn probe_candidates(
-                &self,
-                extended_pan_id: u64,
-                as_router: bool,
-                permit: bool,
-            ) -> heapless::Vec<usize, 16> {
+            pub(crate) fn probe_candidates(&self, extended_pan_id: u64, as_router: bool, permit: bool) -> heapless::Vec<usize, 16> {
                 self.select_candidates(IeeeAddress(extended_pan_id), as_router, permit)
             }
 
@@ -38,28 +33,11 @@ macro_rules! probe {
                     sequence: self.nwk_seq.load(Ordering::Relaxed),
                     pending: self.pending_timeout_request.load(Ordering::Relaxed),
                     timer: self.parent_timeout_remaining_ms.load(Ordering::Relaxed),
-                    failures: self
-                        .transmit_failures
-                        .read()
-                        .iter()
-                        .map(|(a, n)| (a.0, *n))
-                        .collect(),
-                    rejoin_response: self
-                        .rejoin_response
-                        .peek()
-                        .map(|r| (r.network_address.0, r.status)),
-                    timeout_response: self
-                        .timeout_response
-                        .peek()
-                        .map(|r| (r.status, r.parent_information)),
-                    leave_indication: self
-                        .leave_indication
-                        .peek()
-                        .map(|i| (i.device_address.map(|a| a.0), i.rejoin)),
-                    status_indication: self
-                        .nwk_status_indication
-                        .peek()
-                        .map(|i| i.network_address.0),
+                    failures: self.transmit_failures.read().iter().map(|(a, n)| (a.0, *n)).collect(),
+                    rejoin_response: self.rejoin_response.peek().map(|r| (r.network_address.0, r.status)),
+                    timeout_response: self.timeout_response.peek().map(|r| (r.status, r.parent_information)),
+                    leave_indication: self.leave_indication.peek().map(|i| (i.device_address.map(|a| a.0), i.rejoin)),
+                    status_indication: self.nwk_status_indication.peek().map(|i| i.network_address.0),
                 }
             }
 
@@ -70,10 +48,7 @@ macro_rules! probe {
 
             /// False when there are 16 already.
             pub(crate) fn probe_failure(&self, address: u16, count: u8) -> bool {
-                self.transmit_failures
-                    .write()
-                    .push((ShortAddress(address), count))
-                    .is_ok()
+                self.transmit_failures.write().push((ShortAddress(address), count)).is_ok()
             }
         }
     };

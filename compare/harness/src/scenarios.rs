@@ -1,5 +1,5 @@
 //! Random scenarios. The source runs alongside, so that an outcome fits what is awaited, but for the calls that are meant to be refused.
-use crate::driver::{Kind, Driver};
+use crate::driver::{Driver, Kind};
 use crate::trace::{Beacon, BeaconAddress, Call, Entry, Frame, Node, Outcome, Start};
 
 /// splitmix64
@@ -144,11 +144,7 @@ pub fn beacon(r: &mut Rng, f: &Flavour, short: bool, i: usize) -> Beacon {
     Beacon {
         channel: r.pick(&CHANNELS),
         pan: r.pick(&PANS),
-        address: if short {
-            BeaconAddress::Short(f.short(r, i))
-        } else {
-            BeaconAddress::Extended(r.pick(&IEEES))
-        },
+        address: if short { BeaconAddress::Short(f.short(r, i)) } else { BeaconAddress::Extended(r.pick(&IEEES)) },
         epid: f.network(r),
         permit: r.chance(f.good),
         router: r.chance(f.good),
@@ -210,16 +206,9 @@ struct Plan {
 
 impl Plan {
     fn new(r: &mut Rng) -> Self {
-        let theme = [
-            Theme::Candidates,
-            Theme::Join,
-            Theme::Rejoin,
-            Theme::LongRejoin,
-            Theme::Send,
-            Theme::Timeout,
-            Theme::Receive,
-            Theme::Mixed,
-        ][r.weighted(&[11, 19, 27, 3, 10, 10, 10, 10])];
+        let theme =
+            [Theme::Candidates, Theme::Join, Theme::Rejoin, Theme::LongRejoin, Theme::Send, Theme::Timeout, Theme::Receive, Theme::Mixed]
+                [r.weighted(&[11, 19, 27, 3, 10, 10, 10, 10])];
         let mut flavour = Flavour::new(r);
         if matches!(theme, Theme::Join | Theme::Rejoin) && r.chance(600) {
             // many candidates
@@ -253,9 +242,7 @@ fn node(r: &mut Rng, p: &Plan) -> Node {
     let network_address = match p.theme {
         Theme::LongRejoin => 0x1234,
         Theme::Join if r.chance(880) => 0xffff,
-        Theme::Rejoin | Theme::Send | Theme::Timeout if r.chance(900) => {
-            r.pick(&[0x1234, 0x1234, 0xfff7, 0x0000])
-        }
+        Theme::Rejoin | Theme::Send | Theme::Timeout if r.chance(900) => r.pick(&[0x1234, 0x1234, 0xfff7, 0x0000]),
         _ => r.pick(&OWN),
     };
     let pending = if r.flag() { 255 } else { r.pick(&INDEXES) };
@@ -323,11 +310,12 @@ fn failures(r: &mut Rng, parent: Option<u16>) -> Vec<(u16, u8)> {
             (0..n).map(|i| (0x4000 + i, r.pick(&[1, 2, 2]))).collect()
         }
     };
-    if let Some(a) = parent {
-        if !list.is_empty() && r.chance(if list.len() < 14 { 600 } else { 250 }) {
-            let i = r.below(list.len() as u64) as usize;
-            list[i] = (a, r.pick(&[0, 1, 2, 3, 254, 255]));
-        }
+    if let Some(a) = parent
+        && !list.is_empty()
+        && r.chance(if list.len() < 14 { 600 } else { 250 })
+    {
+        let i = r.below(list.len() as u64) as usize;
+        list[i] = (a, r.pick(&[0, 1, 2, 3, 254, 255]));
     }
     list
 }
@@ -482,8 +470,20 @@ pub fn stray(r: &mut Rng, s: &Driver, f: &Flavour) -> Call {
             2 => Outcome::ScanFail,
             3 => Outcome::Associate { status: r.pick(&[0, 1, 2]), address: 0x5678, ieee: r.pick(&OWN_IEEES) },
             4 => Outcome::AssociateFail,
-            5 => if r.flag() { Outcome::Sent } else { Outcome::SendFail },
-            6 => if r.flag() { Outcome::NoData } else { Outcome::PollFail },
+            5 => {
+                if r.flag() {
+                    Outcome::Sent
+                } else {
+                    Outcome::SendFail
+                }
+            }
+            6 => {
+                if r.flag() {
+                    Outcome::NoData
+                } else {
+                    Outcome::PollFail
+                }
+            }
             7 => Outcome::Frame(leave(r, s)),
             _ => Outcome::Frame(rejoin_response(r, s, 500)),
         };
@@ -630,11 +630,7 @@ pub fn scenario(r: &mut Rng, s: &mut Driver, out: &mut String) {
                         Outcome::NoData
                     }
                 } else if (rejoining || negotiating) && polls == respond_at {
-                    if rejoining {
-                        Outcome::Frame(rejoin_response(r, s, p.respond_ok))
-                    } else {
-                        Outcome::Frame(timeout_response(r, s))
-                    }
+                    if rejoining { Outcome::Frame(rejoin_response(r, s, p.respond_ok)) } else { Outcome::Frame(timeout_response(r, s)) }
                 } else if r.chance(p.leave) {
                     Outcome::Frame(leave(r, s))
                 } else if r.chance(p.noise) {

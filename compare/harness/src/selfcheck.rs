@@ -21,10 +21,7 @@ pub fn selfcheck() -> String {
     line("P8 index 0 is 10,000 ms", usize::from(timer(0) != 10_000));
     line("P8 index 14 is 983,040,000 ms", usize::from(timer(14) != 983_040_000));
     line("P8 index 15 to 255 inactive", (15..=255).filter(|i| timer(*i) != 0).count());
-    line(
-        "index 1 to 14: 120 s doubled",
-        (1..=14u8).filter(|i| timer(*i) != 120_000u32 << (i - 1)).count(),
-    );
+    line("index 1 to 14: 120 s doubled", (1..=14u8).filter(|i| timer(*i) != 120_000u32 << (i - 1)).count());
 
     line(
         "capability bits 1 2 3 6 7",

@@ -211,13 +211,9 @@ impl Frame {
             Frame::TimeoutResponse { source, ieee: i, status, information } => {
                 format!("timeoutresponse\t{source:04x}\t{}\t{status}\t{information}", ieee(*i))
             }
-            Frame::Leave { source, ieee: i, destination, request, rejoin, children } => format!(
-                "leave\t{source:04x}\t{}\t{destination:04x}\t{}\t{}\t{}",
-                ieee(*i),
-                b(*request),
-                b(*rejoin),
-                b(*children)
-            ),
+            Frame::Leave { source, ieee: i, destination, request, rejoin, children } => {
+                format!("leave\t{source:04x}\t{}\t{destination:04x}\t{}\t{}\t{}", ieee(*i), b(*request), b(*rejoin), b(*children))
+            }
             Frame::Command { source, ieee: i } => format!("command\t{source:04x}\t{}", ieee(*i)),
             Frame::Other => "otherframe".to_string(),
         }
@@ -233,10 +229,9 @@ impl Call {
             Call::Failure(a, n) => format!("f\t{a:04x}\t{n}"),
             Call::Start(s) => match s {
                 Start::Discovery { from, to, duration } => format!("discovery\t{from}\t{to}\t{duration}"),
-                Start::Join { kind, epid, capability, security, from, to, duration } => format!(
-                    "join\t{kind}\t{epid:016x}\t{capability}\t{}\t{from}\t{to}\t{duration}",
-                    b(*security)
-                ),
+                Start::Join { kind, epid, capability, security, from, to, duration } => {
+                    format!("join\t{kind}\t{epid:016x}\t{capability}\t{}\t{from}\t{to}\t{duration}", b(*security))
+                }
                 Start::Send { destination, secure } => format!("send\t{destination:04x}\t{}", b(*secure)),
                 Start::Poll => "poll".to_string(),
                 Start::Receive => "receive".to_string(),
@@ -315,10 +310,7 @@ impl<'a> Fields<'a> {
     }
     fn number(&mut self, max: u64) -> Res<u64> {
         let w = self.word()?;
-        let good = !w.is_empty()
-            && w.len() <= 10
-            && w.bytes().all(|c| c.is_ascii_digit())
-            && (w == "0" || !w.starts_with('0'));
+        let good = !w.is_empty() && w.len() <= 10 && w.bytes().all(|c| c.is_ascii_digit()) && (w == "0" || !w.starts_with('0'));
         match w.parse::<u64>() {
             Ok(v) if good && v <= max => Ok(v),
             _ => Err(format!("decimal of at most {max} wanted, got {w:?}")),
@@ -371,9 +363,12 @@ fn beacon(line: &str) -> Res<Beacon> {
     Ok(beacon)
 }
 
+/// The number of a bad line, and what is wrong with it.
+pub type Bad = (usize, String);
+
 /// The whole input as calls, each with the number of its (first) line; then, where a line is bad, its number and why. An unended last line
 /// is bad, and so is the end of the input where a `b` line is due: its number is that of the missing line.
-pub fn parse(input: &str) -> (Vec<(usize, Call)>, Option<(usize, String)>) {
+pub fn parse(input: &str) -> (Vec<(usize, Call)>, Option<Bad>) {
     let mut lines: Vec<&str> = input.split('\n').collect();
     let unended = lines.pop().is_some_and(|l| !l.is_empty());
     let mut calls = Vec::new();

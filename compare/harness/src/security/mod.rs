@@ -43,11 +43,7 @@ impl SecurityContext<'_> {
     }
 
     /// Header and payload, one after the other.
-    pub fn encrypt_nwk_frame_in_place(
-        &self,
-        nwk_frame: NwkFrame<'_>,
-        buf: &mut [u8],
-    ) -> Result<usize, SecurityError> {
+    pub fn encrypt_nwk_frame_in_place(&self, nwk_frame: NwkFrame<'_>, buf: &mut [u8]) -> Result<usize, SecurityError> {
         let offset = &mut 0;
         match nwk_frame {
             NwkFrame::Data(f) => {
@@ -63,10 +59,7 @@ impl SecurityContext<'_> {
         Ok(*offset)
     }
 
-    pub fn decrypt_nwk_frame_in_place<'b>(
-        &self,
-        buf: &'b mut [u8],
-    ) -> Result<NwkFrame<'b>, SecurityError> {
+    pub fn decrypt_nwk_frame_in_place<'b>(&self, buf: &'b mut [u8]) -> Result<NwkFrame<'b>, SecurityError> {
         if buf.first() == Some(&UNDECODABLE) {
             return Err(SecurityError::Unspecified);
         }

@@ -7,10 +7,7 @@ use proc_macro::{Delimiter, TokenStream, TokenTree};
 #[proc_macro_derive(Error, attributes(error, from, source))]
 pub fn derive_error(input: TokenStream) -> TokenStream {
     let tokens: Vec<TokenTree> = input.into_iter().collect();
-    let at = tokens
-        .iter()
-        .position(|t| matches!(t, TokenTree::Ident(i) if i.to_string() == "enum"))
-        .expect("an enum");
+    let at = tokens.iter().position(|t| matches!(t, TokenTree::Ident(i) if i.to_string() == "enum")).expect("an enum");
     let name = tokens[at + 1].to_string();
     let body = tokens
         .iter()

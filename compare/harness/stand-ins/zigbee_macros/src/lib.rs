@@ -23,9 +23,7 @@ fn attr_name(a: &TokenStream) -> String {
 
 // value of an attribute `name = value`
 fn attr_value(attrs: &[TokenStream], name: &str) -> Option<String> {
-    attrs.iter().find(|a| attr_name(a) == name).map(|a| {
-        a.clone().into_iter().skip(2).collect::<TokenStream>().to_string()
-    })
+    attrs.iter().find(|a| attr_name(a) == name).map(|a| a.clone().into_iter().skip(2).collect::<TokenStream>().to_string())
 }
 
 fn take_attrs(tokens: &[TokenTree], at: &mut usize) -> Vec<TokenStream> {
@@ -199,9 +197,7 @@ pub fn construct_ib(input: TokenStream) -> TokenStream {
         if attr_value(&f.attrs, "cell").as_deref() == Some("atomic") {
             methods.push_str(&format!("pub fn {field}(&self) -> {ty} {{ *self.{field}.read() }}\n"));
         } else {
-            methods.push_str(&format!(
-                "pub fn {field}(&self) -> ::spin::ReadGuard<'_, {ty}> {{ self.{field}.read() }}\n"
-            ));
+            methods.push_str(&format!("pub fn {field}(&self) -> ::spin::ReadGuard<'_, {ty}> {{ self.{field}.read() }}\n"));
         }
         for setter in ["setter", "quiet_setter"] {
             if let Some(setter) = attr_value(&f.attrs, setter) {
