@@ -1,19 +1,21 @@
 -- The candidates for one network depend on the entries of that network alone. Assumes nothing.
 use Prim.Native.Nat.{ℕ}
-use mathlib.Core.Path.{_≡_, refl, sym, ap, _∙_}
+use mathlib.Core.Path.{_≡_, refl, sym, ap, _∙_, fun-ext}
 use mathlib.Core.Bool.{Bool, true, false, cond, _&&_}
-use mathlib.Core.List.{List, map}
+use mathlib.Core.List.{List, [], _∷_, map}
 use borrow.Author.Tests.{eqb-true, ne-eqb, eq-eqb}
 use lib.Dec.{eqb}
 use lib.ListN.{getD}
-use Rattle.lists.specs.Lists.{select, indexesFrom, sortBy}
+use Rattle.lists.specs.Lists.{foldl, select, indexesFrom, sortBy}
 use Rattle.lists.proofs.Order.{map-sort}
+use Rattle.lists.proofs.Ranks.{select-map, foldl-map}
 use Rattle.lists.proofs.Indexes.{select-same, select-both, named-indexes}
 use Rattle.nib.specs.Neighbors.{blank}
 use Rattle.nib.specs.declared.NwkNeighbor.{NwkNeighbor}
-use Rattle.candidates.specs.UpdateIds.{ofNetwork, networkOf, permits, potential, newest}
+use Rattle.candidates.specs.UpdateIds.{ofNetwork, networkOf, permits, potential, replaced, newest}
 use Rattle.candidates.specs.Candidates.{capacity, lowCost, isId, eligible, depthAt, ordered, candidates, named}
 use Rattle.candidates.specs.declared.Newest.{Newest}
+use Rattle.candidates.specs.declared.Newest.the-variants.{Nothing}
 
 -- an order by a key of f's value goes through f
 pub map-ordered : {A B : Type 0} (f : A → B) (k : B → ℕ) (profile : ℕ) (l : List A) → map f (ordered profile (λ y. k (f y)) l) ≡ ordered profile k (map f l)
@@ -23,10 +25,29 @@ map-ordered {A} {B} f k profile l = go (eqb profile 1)
     go true = map-sort f k l
     go false = refl
 
--- the newest update id of a network is that among the network's own entries
-pub same-newest : (permit : Bool) (n : ℕ) (es es′ : List NwkNeighbor) → networkOf n es ≡ networkOf n es′ → newest permit n es ≡ newest permit n es′
+-- the newest update id of a network is that among the network's own entries, whatever else of them is changed than what is read of them
+pub newest-own : (permit : Bool) (n : ℕ) (f : NwkNeighbor → NwkNeighbor)
+    → ((e : NwkNeighbor) → (permits permit (f e) && potential (f e)) ≡ (permits permit e && potential e)) → ((e : NwkNeighbor) → f e .«update_id» ≡ e .«update_id»)
+    → (es v : List NwkNeighbor) → networkOf n v ≡ map f (networkOf n es) → newest permit n v ≡ newest permit n es
 unfolding newest
-same-newest permit n es es′ h = rw h
+newest-own permit n f part id es v h =
+    ap (λ (l : List NwkNeighbor). foldl step Nothing (select has l)) h
+    ∙ ap (foldl step Nothing) (select-map f has has part (networkOf n es))
+    ∙ foldl-map f step Nothing (select has (networkOf n es))
+    ∙ ap (λ (s : Newest → NwkNeighbor → Newest). foldl s Nothing (select has (networkOf n es))) (fun-ext (λ best. fun-ext (λ e. ap (replaced best) (id e))))
+  where
+    has : NwkNeighbor → Bool
+    has e = permits permit e && potential e
+
+    step : Newest → NwkNeighbor → Newest
+    step best e = replaced best (e .«update_id»)
+
+pub same-newest : (permit : Bool) (n : ℕ) (es es′ : List NwkNeighbor) → networkOf n es ≡ networkOf n es′ → newest permit n es ≡ newest permit n es′
+same-newest permit n es es′ h = newest-own permit n (λ e. e) (λ e. refl) (λ e. refl) es′ es (h ∙ sym (kept (networkOf n es′)))
+  where
+    kept : (l : List NwkNeighbor) → map (λ e. e) l ≡ l
+    kept [] = refl
+    kept (e ∷ l) = ap (λ (z : List NwkNeighbor). e ∷ z) (kept l)
 
 -- the condition on an entry of a network, at that network's newest update id
 abbrev pub fit : Bool → Bool → Newest → NwkNeighbor → Bool

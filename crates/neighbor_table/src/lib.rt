@@ -101,9 +101,9 @@ pub fn seen(table: NeighborTable, neighbor: Neighbor) -> Neighbor
         Neighbor::Absent => Neighbor::Absent,
         Neighbor::Entry(e) => {
             let address = e.network_address;
-            let ieee = ieee_number(find(table, address));
+            let known = ieee_number(find(table, address));
             let mut out = e;
-            out.extended_address = ieee;
+            out.extended_address = known;
             Neighbor::Entry(out)
         }
     }

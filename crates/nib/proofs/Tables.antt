@@ -1,12 +1,13 @@
 -- Laws of a table as a list of entries. Assumes nothing.
-use Prim.Native.Nat.{_<_}
-use mathlib.Core.Path.{_≡_, sym}
+use Prim.Native.Nat.{ℕ, _<_}
+use mathlib.Core.Path.{_≡_, sym, ap}
 use mathlib.Core.List.{List, [], _∷_, _++_}
 use borrow.Author.Tests.{lt-ltb}
-use lib.ListN.{length, length-append, replicate}
+use lib.ListN.{length, length-append, getD, replicate}
 use Rattle.lists.proofs.Lists.{over-snoc, over-take}
-use Rattle.nib.specs.Neighbors.{entriesOf, tableOf, pushed, blank}
+use Rattle.nib.specs.Neighbors.{entriesOf, entryAt, tableOf, pushed, blank}
 use Rattle.nib.specs.declared.NwkNeighbor.{NwkNeighbor}
+use Rattle.nib.specs.declared.Neighbor.the-variants.{Entry}
 
 -- a table made of a list has that list's entries
 pub entries-of : (l : List NwkNeighbor) → entriesOf (tableOf l) ≡ l
@@ -16,3 +17,7 @@ entries-of l = over-take (replicate 16 blank) l
 pub push-of : (l : List NwkNeighbor) (x : NwkNeighbor) → length l < 16 → pushed (tableOf l) x ≡ tableOf (l ++ (x ∷ []))
 unfolding pushed
 push-of l x h = rw (lt-ltb (length l) 16 h) (λ i. record { entries = over-snoc (replicate 16 blank) l x h i; count = sym (length-append l (x ∷ [])) i })
+
+-- an entry is the same wherever it stands: nothing that is read of it tells its index
+pub entry-anywhere : (l k : List NwkNeighbor) (i j : ℕ) → i < length l → j < length k → getD l i blank ≡ getD k j blank → entryAt l i ≡ entryAt k j
+entry-anywhere l k i j h g e = rw (lt-ltb i (length l) h, lt-ltb j (length k) g) (ap (λ (x : NwkNeighbor). Entry x) e)

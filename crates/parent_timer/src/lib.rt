@@ -1,4 +1,4 @@
-// The timer that watches the parent: the local end-device timeout (Zigbee 3.6.10.6), by value and over a lent record.
+// The timer that watches the parent: the local end-device timeout (Zigbee 3.6.10.6).
 ghost use mathlib.Core.Path.{_≡_};
 ghost use Prim.Native.Nat.{max};
 ghost use Rattle.parent_timer.specs.Timer.{ticked};
@@ -45,14 +45,4 @@ impl ParentTimer {
             expired: false,
         }
     }
-}
-
-// The timer interrupt lends its record and finds it updated there.
-pub fn tick_lent(timer: &mut ParentTimer, elapsed_ms: u32) -> bool
-    ensures { λ r. ⌜ (r ≡ ticked (now (timer .entry)) «elapsed_ms» .expired) × (now (timer .exit) ≡ ticked (now (timer .entry)) «elapsed_ms» .timer) ⌝ }
-{
-    let before = *timer;
-    let after = before.tick(elapsed_ms);
-    *timer = after.timer;
-    after.expired
 }

@@ -29,7 +29,7 @@ use Rattle.operation.specs.declared.Step.the-variants.{Refused, Ask, Discovered
 use Rattle.node.specs.Looks.{entries, moved, barred, finish}
 use Rattle.node.specs.Refusals.{refuse, strayIndex, bad, starting, always}
 use Rattle.node.specs.Calls.{startDiscovery, chosen, joinFrom, joinBy, startJoin, heard, rejoinHeard, discovered, scanFound, scanListed, scanned, continuing, changed, after, receivedFor, receivedIn, receptionOver, sentIn, transmissionOver, takeStatusIndication}
-use Rattle.tries.specs.Tries.{parentIn, skipped, nextIndex, nextIn, strays, taking, adoptedNext}
+use Rattle.tries.specs.Tries.{parentIn, triedIndex, skipped, nextIndex, nextIn, strays, taking, adoptedNext}
 use Rattle.neighbor_table.specs.NeighborTable.{found, parentOf, onEntries, learnt, marked, adopted, retained}
 use Rattle.candidates.specs.Candidates.{listOf, eligible, depthAt, candidates}
 use Rattle.candidates.specs.UpdateIds.{newer, newest}
@@ -94,16 +94,16 @@ node address network awaited =
       candidates = record { list = listOf []; taken = 0 };
     }
 
--- the beacon of a short address in a network on a channel: joining permitted, room for routers and end devices, depth 1
-abbrev beacon : ℕ → ℕ → ℕ → PanDescriptor
-beacon address network channel =
+-- the beacon of a short address in a network on a channel, with an update id: joining permitted, room for routers and end devices, depth 1
+abbrev beacon : ℕ → ℕ → ℕ → ℕ → PanDescriptor
+beacon address network channel id =
     record {
       channel = channel;
       «coord_pan_id» = record { 0 = 17 };
       «coord_address» = Short (record { 0 = 17 }) (record { 0 = address });
       «superframe_spec» = record { «beacon_order» = 15; «superframe_order» = 15; «association_permit» = true };
       «link_quality» = 200;
-      «zigbee_beacon» = record { «stack_profile» = record { 0 = 0x8c22 }; «extended_pan_id» = record { 0 = network }; «update_id» = 5 };
+      «zigbee_beacon» = record { «stack_profile» = record { 0 = 0x8c22 }; «extended_pan_id» = record { 0 = network }; «update_id» = id };
     }
 
 abbrev hears : List PanDescriptor → Call
@@ -195,22 +195,22 @@ left ds = joinOf NwkRejoin 0 ∷ hears ds ∷ transmission true ∷ leaves 5 ∷
 abbrev taughtBy7 : List PanDescriptor → List Call
 taughtBy7 ds = joinOf NwkRejoin 0 ∷ hears ds ∷ transmission true ∷ reception (Received (Data (from 7 (Ieee (record { 0 = 99 }))))) ∷ declines 8 ∷ []
 
--- beacons of the network 170, and of the foreign network 9
+-- beacons of the network 170, and of the foreign network 9, whose update id is newer
 abbrev own-7 : PanDescriptor
-own-7 = beacon 7 170 15
+own-7 = beacon 7 170 15 5
 
 abbrev own-8 : PanDescriptor
-own-8 = beacon 8 170 15
+own-8 = beacon 8 170 15 5
 
 abbrev foreign : ℕ → PanDescriptor
-foreign address = beacon address 9 20
+foreign address = beacon address 9 20 6
 
 -- the IEEE addresses that the entries themselves hold
 abbrev addresses : State → List ℕ
 addresses s = map (λ e. e .«extended_address» .0) (entries s)
 
 record Computed : Type 0 where
-  -- a foreign beacon first, then one of the network: the association is asked of the second; a start while it is under way is refused
+  -- a foreign beacon first, then one of the network: the association is asked of the second, though the newest update id of the whole table is the foreign one; a start while it is under way is refused
   joins-past : steps (run new (joining (foreign 1 ∷ own-7 ∷ []))) ≡ Ask (Scan range) ∷ Discovered ∷ StatusTaken NoStatusIndication ∷ associates 7 15 ∷ Refused 1 ∷ []
   -- "a non-zero network": a join that names 0 takes any network, and tries the foreign beacon first where it is heard
   wild-with : steps (run new (wild (foreign 1 ∷ own-7 ∷ []))) ≡ Ask (Scan range) ∷ Discovered ∷ associates 1 20 ∷ []
@@ -233,11 +233,14 @@ record Computed : Type 0 where
   taught-without : steps (run member (taughtBy7 (own-8 ∷ own-7 ∷ []))) ≡ Ask (Scan range) ∷ rejoins 1 8 NoIeee ∷ polls 8 ∷ polls 8 ∷ rejoins 2 7 (Ieee (record { 0 = 99 })) ∷ []
   addresses-with : addresses (reached member (taughtBy7 (foreign 7 ∷ own-8 ∷ own-7 ∷ []))) ≡ 99 ∷ 0 ∷ 0 ∷ []
   addresses-without : addresses (reached member (taughtBy7 (own-8 ∷ own-7 ∷ []))) ≡ 0 ∷ 99 ∷ []
+  -- the index of the candidate that is being tried differs: a confirm that named it would
+  index-with : triedIndex (reached new (joining (foreign 1 ∷ own-7 ∷ [])) .candidates) ≡ 1
+  index-without : triedIndex (reached new (joining (own-7 ∷ [])) .candidates) ≡ 0
   -- the theorem at two lists that differ in a foreign beacon
   applied : run new (joining (foreign 1 ∷ own-7 ∷ [])) ≡ run new (joining (own-7 ∷ []))
 
 computed : Computed
-unfolding moved barred finish refuse strayIndex bad starting always startDiscovery chosen joinFrom joinBy startJoin heard rejoinHeard discovered scanFound scanListed scanned continuing changed after receivedFor receivedIn receptionOver sentIn transmissionOver takeStatusIndication parentIn skipped nextIndex nextIn strays taking adoptedNext found parentOf onEntries learnt marked adopted retained eligible depthAt candidates newer newest potentialParent entryOf neighborBy present neighborsOf associating joinStarted statusOf invalid trying scanOrEnd tryRemembered rejoinStarted tryCandidate tryNext tryFailed responded polling pollParent answeredBy pollOn requestSent taughtBy taught rejoinResponded neighborLeft leaveHandled handled negotiationReset commandHeader linkCost shown flatMap
+unfolding moved barred finish refuse strayIndex bad starting always startDiscovery chosen joinFrom joinBy startJoin heard rejoinHeard discovered scanFound scanListed scanned continuing changed after receivedFor receivedIn receptionOver sentIn transmissionOver takeStatusIndication parentIn triedIndex skipped nextIndex nextIn strays taking adoptedNext found parentOf onEntries learnt marked adopted retained eligible depthAt candidates newer newest potentialParent entryOf neighborBy present neighborsOf associating joinStarted statusOf invalid trying scanOrEnd tryRemembered rejoinStarted tryCandidate tryNext tryFailed responded polling pollParent answeredBy pollOn requestSent taughtBy taught rejoinResponded neighborLeft leaveHandled handled negotiationReset commandHeader linkCost shown flatMap
 computed =
     record {
       joins-past = refl;
@@ -255,6 +258,8 @@ computed =
       taught-without = refl;
       addresses-with = refl;
       addresses-without = refl;
+      index-with = refl;
+      index-without = refl;
       applied =
           two-nodes 170 (λ e. omega arith) new refl (joining (foreign 1 ∷ own-7 ∷ [])) (joining (own-7 ∷ []))
           (more (same _) (more (scans (within refl refl (omega arith) (omega arith) (omega arith) (omega arith) refl)) (more (same _) (more (same _) (more (same _) none)))))

@@ -33,6 +33,7 @@ use Rattle.frame.specs.declared.ReceivedFrame.the-variants.{Undecodable, Data, 
 use Rattle.mlme.specs.declared.PanDescriptor.{PanDescriptor}
 use Rattle.discovery.specs.Discovery.{neighborsOf, shortAddressed, beaconOf}
 use Rattle.discovery.proofs.Scans.{neighbors-all}
+use Rattle.neighbor_table.proofs.Addressed.{mild-potential, taughtTo}
 use Rattle.candidates.specs.UpdateIds.{ofNetwork}
 use Rattle.candidates.specs.Candidates.{candidates, itemsOf, listOf}
 use Rattle.candidates.proofs.Laws.{few as few-candidates}
@@ -46,7 +47,7 @@ use Rattle.node.specs.Refusals.{strayIndex, bad}
 use Rattle.node.specs.Calls.{chosen, withChosen, heard, taughtOn}
 use Rattle.received.specs.Received.{taughtBy, taught}
 use Rattle.node.specs.declared.State.{State}
-use Rattle.two_nodes.proofs.Sight.{shows, marks, Placed, nowhere, placed-at, parent-shows, entry-shows, changed-shows, mild-potential, adoptedIn, adopted-shows, adopted-marks, joinedIn, joined-shows, joined-ranks, taughtTo, learnt-shows, learnt-marks, scan-shows, choiceIn, choice-ours, choice-shows}
+use Rattle.two_nodes.proofs.Sight.{shows, marks, Placed, nowhere, placed-at, parent-shows, entry-shows, changed-shows, adoptedIn, adopted-shows, adopted-marks, joinedIn, joined-shows, joined-ranks, learnt-shows, learnt-marks, scan-shows, choiceIn, choice-ours, choice-shows}
 
 -- what is seen of the table; the places of all candidates among the network's own entries; and how many candidates have been taken
 pub record Sight : Type 0 where

@@ -19,7 +19,7 @@ returns : tie.Need-returns
 returns c = search needs
 
 returns-2 : tie.Need-returns-2
-returns-2 c = rw (c .before .before .before .before .neighbor .given .1, c .ieee-number .ensures, c .before .find .ensures)
+returns-2 c = rw (c .before .before .before .before .neighbor .given .1) (cc (c .ieee-number .ensures, c .before .find .ensures))
 
 pub seen-spec : {M : Type 1} → statement M
 seen-spec =

@@ -1,0 +1,61 @@
+-- Laws of the tick over a lent record: when it is turned down, and what it is for the state's own record. Assumes nothing.
+use Prim.Native.Nat.{ℕ}
+use mathlib.Core.Path.{_≡_, refl, sym, ap, subst, _∙_}
+use mathlib.Core.Bool.{Bool, true, false, cond}
+use mathlib.Core.List.{List, [], _∷_}
+use native.Mathlib.Omega.{arith}
+use types.Run.{OneOf, miss}
+use denote.Enum.Declared.{tagOf}
+use Rattle.lists.proofs.Conditions.{pick-true, pick-false}
+use Rattle.parent_timer.specs.declared.ParentTimer.{ParentTimer}
+use Rattle.operation.specs.declared.Step.the-variants.{Refused}
+use Rattle.operation.proofs.Step.{the-type}
+use Rattle.node.specs.Refusals.{strayIndex, bad, refuse, always}
+use Rattle.node.specs.Calls.{tick}
+use Rattle.node.specs.declared.State.{State}
+use Rattle.node.specs.declared.Answer.{Answer}
+use Rattle.lent_tick.specs.LentTick.{timerOf, withTimer, turnedDown, leaving, lentTick}
+
+-- the tag of a tick's answer: 0 for a refusal, 9 for one that says whether the timer expired
+tag-of : (elapsed : ℕ) (s : State) → tagOf the-type (tick elapsed s .step) ≡ cond (bad s) 0 9
+unfolding tick always refuse
+tag-of elapsed s = go (bad s) _ refl
+  where
+    go : (b : Bool) (a : Answer) → tagOf the-type (a .step) ≡ 9 → tagOf the-type (cond b (refuse 5 s) a .step) ≡ cond b 0 9
+    go true a h = refl
+    go false a h = h
+
+-- the tags of all answers but a refusal
+abbrev noRefusal : List ℕ
+noRefusal = 1 ∷ 2 ∷ 3 ∷ 4 ∷ 5 ∷ 6 ∷ 7 ∷ 8 ∷ 9 ∷ 10 ∷ 11 ∷ []
+
+-- a is the tick of the state with the lent record: if it says that it was refused, 5 turned it down; if it says anything else, 5 did not
+module _ (t : ParentTimer) (elapsed : ℕ) (s : State) (a : Answer) (e : a ≡ tick elapsed (withTimer t s)) where
+  tag : tagOf the-type (a .step) ≡ cond (bad s) 0 9
+  unfolding bad strayIndex
+  tag = ap (λ (x : Answer). tagOf the-type (x .step)) e ∙ tag-of elapsed (withTimer t s)
+
+  pub if-refused : (n : ℕ) → a .step ≡ Refused n → turnedDown t s ≡ lentTick t elapsed s
+  unfolding lentTick
+  if-refused n h = pick-true (bad s) _ _ (go (bad s) (sym tag ∙ ap (tagOf the-type) h))
+    where
+      go : (b : Bool) → cond {A = ℕ} b 0 9 ≡ 0 → b ≡ true
+      go true q = refl
+      go false q = absurd (omega arith)
+
+  pub if-not-refused : OneOf noRefusal (tagOf the-type (a .step)) → leaving a ≡ lentTick t elapsed s
+  unfolding lentTick
+  if-not-refused h = ap leaving e ∙ pick-false (bad s) _ _ (go (bad s) (subst (OneOf noRefusal) tag h))
+    where
+      go : (b : Bool) → OneOf noRefusal (cond b 0 9) → b ≡ false
+      go true q = absurd (miss noRefusal 0 tt q)
+      go false q = refl
+
+-- lent the state's own record, the answer is the state's tick, and the record left is that of the state left
+pub own-record : (elapsed : ℕ) (s : State) → lentTick (timerOf s) elapsed s ≡ leaving (tick elapsed s)
+unfolding lentTick tick always refuse
+own-record elapsed s = go (bad s) _
+  where
+    go : (b : Bool) (a : Answer) → cond b (turnedDown (timerOf s) s) (leaving (cond b (refuse 5 s) a)) ≡ leaving (cond b (refuse 5 s) a)
+    go true a = refl
+    go false a = refl

@@ -1,0 +1,29 @@
+-- A tick over a lent timer record (01, "Supervision record": "The timer interrupt lends its record and finds it updated there").
+use Prim.Native.Nat.{ℕ}
+use mathlib.Core.Bool.{cond}
+use Rattle.parent_timer.specs.declared.ParentTimer.{ParentTimer}
+use Rattle.nlme.specs.Fields as fields
+use Rattle.node.specs.Refusals.{bad, refuse}
+use Rattle.node.specs.Calls.{withNode, tick}
+use Rattle.node.specs.declared.State.{State}
+use Rattle.node.specs.declared.Answer.{Answer}
+use Rattle.lent_tick.specs.declared.LentTicked.{LentTicked}
+
+-- the state's own record, and the state with another in its place
+abbrev pub timerOf : State → ParentTimer
+timerOf s = s .control .nlme .«parent_timer»
+
+abbrev pub withTimer : ParentTimer → State → State
+withTimer t s = withNode (fields.withTimer t (s .control .nlme)) s
+
+-- turned down by 5: state and record stay as handed in
+abbrev pub turnedDown : ParentTimer → State → LentTicked
+turnedDown t s = record { timer = t; answer = refuse 5 s }
+
+-- an answer, and its state's record in the lent one
+abbrev pub leaving : Answer → LentTicked
+leaving a = record { timer = timerOf (a .state); answer = a }
+
+-- a tick of the state with the lent record in place of its own
+unfoldable pub lentTick : ParentTimer → ℕ → State → LentTicked
+lentTick t elapsed s = cond (bad s) (turnedDown t s) (leaving (tick elapsed (withTimer t s)))

@@ -1,0 +1,77 @@
+// The tick of the timer interrupt, which lends its timer record and finds it updated there: by value, and over the lent record.
+ghost use mathlib.Core.Path.{_≡_};
+ghost use Rattle.lent_tick.specs.LentTick.{withTimer, turnedDown, leaving, lentTick};
+use node::Answer;
+use node::State;
+use operation::Note;
+use operation::Step;
+use parent_timer::ParentTimer;
+
+// What a tick leaves in the lent record, and what it answers.
+pub struct LentTicked {
+    pub timer: ParentTimer,
+    pub answer: Answer,
+}
+
+fn with_timer(state: State, timer: ParentTimer) -> State
+    ensures { λ r. ⌜ r ≡ withTimer timer state ⌝ }
+{
+    let mut nlme = state.control.nlme;
+    nlme.parent_timer = timer;
+    let mut control = state.control;
+    control.nlme = nlme;
+    let mut out = state;
+    out.control = control;
+    out
+}
+
+fn turned_down(timer: ParentTimer, state: State) -> LentTicked
+    ensures { λ r. ⌜ r ≡ turnedDown timer state ⌝ }
+{
+    let answer = Answer {
+        state,
+        reset: false,
+        note: Note::NoNote,
+        step: Step::Refused(5),
+        polls_used: 0,
+    };
+    LentTicked { timer, answer }
+}
+
+fn leaving(answer: Answer) -> LentTicked
+    ensures { λ r. ⌜ r ≡ leaving answer ⌝ }
+{
+    let state = answer.state;
+    let left = state.control.nlme.parent_timer;
+    LentTicked {
+        timer: left,
+        answer,
+    }
+}
+
+// A tick of the state with this record in place of its own.
+pub fn tick_with(timer: ParentTimer, state: State, elapsed_ms: u32) -> LentTicked
+    ensures { λ r. ⌜ r ≡ lentTick timer «elapsed_ms» state ⌝ }
+{
+    let lent = with_timer(state, timer);
+    let answer = lent.tick_parent_timeout(elapsed_ms);
+    let step = answer.step;
+    match step {
+        Step::Refused(_) => {
+            return turned_down(timer, state);
+        }
+        _ => {
+            return leaving(answer);
+        }
+    }
+}
+
+// The timer interrupt lends its record and finds it updated there.
+pub fn tick_lent(timer: &mut ParentTimer, state: State, elapsed_ms: u32) -> Answer
+    ensures { λ r. ⌜ (r ≡ lentTick (now (timer .entry)) «elapsed_ms» state .answer) × (now (timer .exit) ≡ lentTick (now (timer .entry)) «elapsed_ms» state .timer) ⌝ }
+{
+    let before = *timer;
+    let after = tick_with(before, state, elapsed_ms);
+    *timer = after.timer;
+    after.answer
+}
