@@ -1,28 +1,34 @@
--- Laws of the guard of a start, by the number of its refusal. Assumes nothing.
+-- Laws of refusals by their number. Assumes nothing.
 use Prim.Native.Nat.{ℕ}
-use mathlib.Core.Path.{_≡_, refl, ap}
+use mathlib.Core.Path.{_≡_, refl, sym}
 use mathlib.Core.Bool.{Bool, true, false, cond}
+use lib.Dec.{eqb}
 use native.Mathlib.Omega.{arith}
-use Rattle.operation.specs.Operation.{isIdle}
+use Rattle.lists.proofs.Conditions.{pick-false}
 use Rattle.node.specs.declared.State.{State}
 use Rattle.node.specs.declared.Answer.{Answer}
-use Rattle.node.specs.Refusals.{refuse, bad, starting}
+use Rattle.node.specs.Refusals.{refuse, bad}
+use Rattle.node.specs.Parts.{refusalOf, closed}
 
-module _ (s : State) (a : Answer) (k : ℕ) (e : k ≡ cond (bad s) 5 (cond (isIdle (s .control .operation .phase)) 0 1)) where
-  pub turned-down : (k ≡ 0 → ⊥) → refuse k s ≡ starting s a
-  unfolding starting
-  turned-down n = go (bad s) (isIdle (s .control .operation .phase)) e
-    where
-      go : (b i : Bool) → k ≡ cond b 5 (cond i 0 1) → refuse k s ≡ cond b (refuse 5 s) (cond i a (refuse 1 s))
-      go true i e = ap (λ (j : ℕ). refuse j s) e
-      go false true e = absurd (n e)
-      go false false e = ap (λ (j : ℕ). refuse j s) e
+-- 5, then another refusal k unless the call fits what is awaited
+pub guarded : (s : State) {x a : Answer} (fits : Bool) (k : ℕ) → eqb k 0 ≡ false → x ≡ a → closed (refusalOf fits k s) s x ≡ cond (bad s) (refuse 5 s) (cond fits a (refuse k s))
+guarded s {x} {a} fits k n e = go (bad s) fits
+  where
+    go : (b f : Bool) → cond (eqb (cond b 5 (cond f 0 k)) 0) x (refuse (cond b 5 (cond f 0 k)) s) ≡ cond b (refuse 5 s) (cond f a (refuse k s))
+    go true f = refl
+    go false true = e
+    go false false = sym (pick-false (eqb k 0) x (refuse k s) n)
 
-  pub started : k ≡ 0 → a ≡ starting s a
-  unfolding starting
-  started z = go (bad s) (isIdle (s .control .operation .phase)) e
-    where
-      go : (b i : Bool) → k ≡ cond b 5 (cond i 0 1) → a ≡ cond b (refuse 5 s) (cond i a (refuse 1 s))
-      go true i e = absurd (let f : ⊥ = omega arith in f)
-      go false true e = refl
-      go false false e = absurd (let f : ⊥ = omega arith in f)
+-- the refusal of an outcome that another may follow
+abbrev pub refusing : State → Bool → ℕ
+refusing s w = refusalOf w 2 s
+
+pub turned-down : (b w : Bool) (k x : ℕ) → k ≡ cond b 5 (cond w 0 2) → (k ≡ 0 → ⊥) → k ≡ cond b 5 (cond w x 2)
+turned-down true w k x e n = e
+turned-down false true k x e n = absurd (n e)
+turned-down false false k x e n = e
+
+pub let-through : (b w : Bool) (k x : ℕ) → k ≡ cond b 5 (cond w 0 2) → k ≡ 0 → x ≡ cond b 5 (cond w x 2)
+let-through true w k x e z = absurd (let f : ⊥ = omega arith in f)
+let-through false true k x e z = refl
+let-through false false k x e z = absurd (let f : ⊥ = omega arith in f)

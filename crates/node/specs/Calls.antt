@@ -8,7 +8,6 @@ use Rattle.nib.specs.Identifiers.{bit}
 use Rattle.nib.specs.Neighbors.{tableOf}
 use Rattle.nib.specs.declared.CapabilityInformation.{CapabilityInformation}
 use Rattle.nib.specs.declared.ShortAddress.{ShortAddress}
-use Rattle.nib.specs.declared.Neighbor.{Neighbor}
 use Rattle.neighbor_table.specs.NeighborTable.{onEntries, retained}
 use Rattle.mlme.specs.Mlme.{descriptorsOf}
 use Rattle.mlme.specs.declared.PanDescriptor.{PanDescriptor}
@@ -41,7 +40,6 @@ use Rattle.operation.specs.declared.Purpose.{Purpose}
 use Rattle.operation.specs.declared.Purpose.the-variants.{RejoinResponse, SinglePoll, SingleReceive, TimeoutResponse}
 use Rattle.operation.specs.declared.Phase.{Phase}
 use Rattle.operation.specs.declared.Phase.the-variants as phase
-use Rattle.operation.specs.declared.Control.{Control}
 use Rattle.operation.specs.declared.RadioRequest.the-variants.{Scan, Transmit}
 use Rattle.operation.specs.declared.Note.the-variants.{NoNote}
 use Rattle.operation.specs.declared.Step.{Step}
@@ -49,8 +47,9 @@ use Rattle.operation.specs.declared.Step.the-variants.{Discovered, DiscoveryFai
 use Rattle.operation.specs.declared.Decision.{Decision}
 use Rattle.join.specs.Join.{failing, joinStarted, associated}
 use Rattle.join.specs.declared.AssociationOutcome.{AssociationOutcome}
-use Rattle.rejoin.specs.Rejoin.{rejoinStarted, tryNext, pollOn, requestSent}
-use Rattle.exchange.specs.Exchange.{sendStarted, dataSent, pollStarted, receiveStarted, pollOver, timeoutStarted, timeoutPollOn, timeoutRequestSent}
+use Rattle.rejoin.specs.Rejoin.{rejoinStarted, tryNext, requestSent}
+use Rattle.exchange.specs.Exchange.{sendStarted, dataSent, pollStarted, receiveStarted, timeoutStarted, timeoutRequestSent}
+use Rattle.steps.specs.Steps.{continuing}
 use Rattle.tries.specs.declared.Candidates.{Candidates}
 use Rattle.node.specs.declared.State.{State}
 use Rattle.node.specs.declared.Answer.{Answer}
@@ -179,13 +178,6 @@ associationOver o s =
     ending (awaitsAssociation (s .control .operation .phase)) s (deciding s (associated o (tried s) (next s) (s .control)))
 
 -- The outcome of a poll or a receive (01, "Received frame")
-
--- what the poll was for goes on: a single poll or receive answers, a rejoin or a negotiation polls on
-unfoldable pub continuing : Purpose → PollAnswer → Neighbor → Neighbor → Control → Decision
-continuing RejoinResponse a p x c = pollOn p x c
-continuing SinglePoll a p x c = pollOver a c
-continuing SingleReceive a p x c = pollOver a c
-continuing (TimeoutResponse keepalive) a p x c = timeoutPollOn keepalive p c
 
 abbrev pub goOn : Bool → Purpose → PollAnswer → State → Answer
 goOn reset p a s = finish reset s (continuing p a (parent s) (next s) (s .control))

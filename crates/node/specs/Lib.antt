@@ -1,4 +1,5 @@
 pub mod Looks
 pub mod Refusals
 pub mod Calls
+pub mod Parts
 pub mod Runs

@@ -1,56 +1,45 @@
 // A node's state, and every call that can be made on it.
 ghost use mathlib.Core.Path.{_≡_};
-ghost use mathlib.Core.Bool.{true, false, cond, not};
+ghost use mathlib.Core.Bool.{true, false};
 ghost use mathlib.Core.List.{[]};
-ghost use Rattle.mlme.specs.Mlme.{descriptorsOf};
+ghost use Rattle.management.specs.declared.PollAnswer.the-variants.{PollNothing};
 ghost use Rattle.discovery.specs.Discovery.{confirmOf};
 ghost use Rattle.supervision.specs.Keepalive.{keepaliveIntervalMs, keepaliveMethod, negotiatedPollIntervalMs};
-ghost use Rattle.management.specs.declared.NlmeJoinStatus.the-variants.{InvalidRequest, MacError};
-ghost use Rattle.management.specs.declared.PollAnswer.the-variants.{PollNothing};
-ghost use Rattle.nlme.specs.Fields.{withSignals};
-ghost use Rattle.operation.specs.Operation.{isIdle, asking, ending};
-ghost use Rattle.operation.specs.declared.Phase.the-variants.{LeaveSend};
-ghost use Rattle.operation.specs.declared.RadioRequest.the-variants.{Transmit};
-ghost use Rattle.operation.specs.declared.Step.the-variants.{DiscoveryFailed};
-ghost use Rattle.join.specs.Join.{failing, associated};
-ghost use Rattle.rejoin.specs.Rejoin.{rejoinStarted, requestSent};
-ghost use Rattle.exchange.specs.Exchange.{dataSent, timeoutRequestSent};
-ghost use Rattle.node.specs.Looks.{withTable, parent, tried, next, takenNext, moved, barred, finish};
-ghost use Rattle.node.specs.Refusals.{refuse, bad};
-ghost use Rattle.node.specs.Calls.{deciding, startDiscovery, withChosen, joinWith, joinFrom, joinBy, startJoin, startSend, startPoll, startReceive, startTimeout, heard, noConfirm, scanFailed, rejoinAmong, rejoinHeard, discovered, scanFound, scanListed, scanned, associationOver, continuing, goOn, noData, withNode, changed, after, handledOn, taughtOn, processed, receivedFor, receptionOver, left, sentIn, transmissionOver, saying, tick, takeLeaveIndication, takeStatusIndication, choose};
+ghost use Rattle.received.specs.declared.TableChange.the-variants.{KeepTable};
+ghost use Rattle.received.specs.declared.Then.the-variants.{Over};
+ghost use Rattle.operation.specs.Operation.{isIdle};
+ghost use Rattle.steps.specs.Steps.{scanOver};
+ghost use Rattle.node.specs.declared.ReceptionOutcome.the-variants.{Received};
+ghost use Rattle.node.specs.Looks.{withTable};
+ghost use Rattle.node.specs.Refusals.{refuse, bad, starting, ending};
+ghost use Rattle.node.specs.Calls.{deciding, startDiscovery, withChosen, startJoin, startSend, startPoll, startReceive, startTimeout, scanned, associationOver, noData, receptionOver, transmissionOver, tick, takeLeaveIndication, takeStatusIndication, choose};
+ghost use Rattle.node.specs.Parts.{tablesOf, stateOf, carriedOut, refusalOf, closed, forAssociation, forJoin, isDiscovery, listRefusal, scanRefusal, confirmFor, afterScan, noDataIn, handledBy, taughtBy, changedBy, receivedOn, afterLeave};
 use candidates::CandidateList;
 use discovery::NetworkDescriptor;
 use discovery::NlmeNetworkDiscoveryConfirm;
 use frame::ReceivedFrame;
 use join::AssociationOutcome;
-use management::LeaveIndicationSlot;
 use management::NlmeJoinRequest;
-use management::NlmeJoinStatus;
 use management::PollAnswer;
 use management::RejoinNetwork;
 use management::ScanRange;
-use management::Signals;
-use management::StatusIndicationSlot;
 use mlme::PanDescriptorList;
 use nib::CapabilityInformation;
 use nib::ExtendedPanId;
-use nib::Neighbor;
 use nib::NeighborTable;
 use nib::PanId;
 use nib::ShortAddress;
 use nlme::Nlme;
-use nlme::Transmission;
 use operation::Control;
 use operation::Decision;
-use operation::Move;
 use operation::Note;
 use operation::Phase;
 use operation::Purpose;
-use operation::RadioRequest;
 use operation::Step;
 use received::Handled;
 use received::TableChange;
 use received::Then;
+use steps::Tables;
 use supervision::KeepaliveMethod;
 use supervision::OptionalPeriod;
 use tries::Candidates;
@@ -95,7 +84,7 @@ pub struct Choice {
     pub list: CandidateList,
 }
 
-// Parts of the state, and what a decision writes to it.
+// Parts of the state.
 impl State {
     fn phase(self) -> Phase
         ensures { λ r. ⌜ r ≡ self .control .operation .phase ⌝ }
@@ -104,100 +93,49 @@ impl State {
         operation.phase
     }
 
-    fn with_nlme(self, nlme: Nlme) -> State
-        ensures { λ r. ⌜ r ≡ withNode nlme self ⌝ }
+    fn tables(self) -> Tables
+        ensures { λ r. ⌜ r ≡ tablesOf self ⌝ }
     {
-        let mut control = self.control;
-        control.nlme = nlme;
-        let mut out = self;
-        out.control = control;
-        out
+        let table = self.table;
+        let candidates = self.candidates;
+        Tables { table, candidates }
     }
 
-    fn with_signals(self, signals: Signals) -> State
-        ensures { λ r. ⌜ r ≡ withNode (withSignals signals (self .control .nlme)) self ⌝ }
+    fn with_table(self, table: NeighborTable) -> Tables
+        ensures { λ r. ⌜ r ≡ record { table = table; candidates = self .candidates } ⌝ }
     {
-        let mut nlme = self.control.nlme;
-        nlme.signals = signals;
-        self.with_nlme(nlme)
+        let candidates = self.candidates;
+        Tables { table, candidates }
     }
+}
 
-    fn with_table(self, table: NeighborTable) -> State
-        ensures { λ r. ⌜ r ≡ withTable table self ⌝ }
-    {
-        let mut out = self;
-        out.table = table;
-        out
+fn state_of(control: Control, tables: Tables) -> State
+    ensures { λ r. ⌜ r ≡ stateOf control tables ⌝ }
+{
+    let table = tables.table;
+    let candidates = tables.candidates;
+    State {
+        control,
+        table,
+        candidates,
     }
+}
 
-    fn take_next(self) -> State
-        ensures { λ r. ⌜ r ≡ takenNext self ⌝ }
-    {
-        let candidates = tries::take_next(self.table, self.candidates);
-        let mut out = self;
-        out.candidates = candidates;
-        out
-    }
-
-    fn moved(self, candidate: Move) -> State
-        ensures { λ r. ⌜ r ≡ moved candidate self ⌝ }
-    {
-        match candidate {
-            Move::Stay => self,
-            Move::TakeNext => self.take_next(),
-            Move::AdoptNext => {
-                let table = tries::adopt_next(self.table, self.candidates);
-                let adopted = self.with_table(table);
-                adopted.take_next()
-            }
-            Move::JoinTried => {
-                let table = tries::join_tried(self.table, self.candidates);
-                self.with_table(table)
-            }
-        }
-    }
-
-    fn barred(self, clear: bool) -> State
-        ensures { λ r. ⌜ r ≡ barred clear self ⌝ }
-    {
-        if clear {
-            let table = tries::bar_tried(self.table, self.candidates);
-            return self.with_table(table);
-        }
-        self
-    }
-
-    // A decision carried out.
-    fn finish(self, reset: bool, decision: Decision) -> Answer
-        ensures { λ r. ⌜ r ≡ finish reset self decision ⌝ }
-    {
-        let candidate = decision.candidate;
-        let cleared = self.barred(decision.clear_potential_parent);
-        let control = decision.control;
-        let mut state = cleared.moved(candidate);
-        state.control = control;
-        let note = decision.note;
-        let step = decision.step;
-        Answer {
-            state,
-            reset,
-            note,
-            step,
-            polls_used: decision.polls_used,
-        }
-    }
-
-    // An answer that decides nothing.
-    fn saying(self, step: Step) -> Answer
-        ensures { λ r. ⌜ r ≡ saying step self ⌝ }
-    {
-        Answer {
-            state: self,
-            reset: false,
-            note: Note::NoNote,
-            step,
-            polls_used: 0,
-        }
+// A decision carried out on a table and its candidates.
+fn carried_out(tables: Tables, reset: bool, decision: Decision) -> Answer
+    ensures { λ r. ⌜ r ≡ carriedOut tables reset decision ⌝ }
+{
+    let candidate = decision.candidate;
+    let written = steps::written(tables, decision.clear_potential_parent, candidate);
+    let state = state_of(decision.control, written);
+    let note = decision.note;
+    let step = decision.step;
+    Answer {
+        state,
+        reset,
+        note,
+        step,
+        polls_used: decision.polls_used,
     }
 }
 
@@ -206,7 +144,13 @@ impl State {
     fn refuse(self, refusal: u8) -> Answer
         ensures { λ r. ⌜ r ≡ refuse refusal self ⌝ }
     {
-        self.saying(Step::Refused(refusal))
+        Answer {
+            state: self,
+            reset: false,
+            note: Note::NoNote,
+            step: Step::Refused(refusal),
+            polls_used: 0,
+        }
     }
 
     // Refusal 5: a count is above 16, polls left above 20, or an association has a stray index.
@@ -234,17 +178,48 @@ impl State {
         tries::strays(self.table.count, self.candidates)
     }
 
-    // The refusal of a start, 0 where it is not turned down.
-    fn start_refusal(self) -> u8
-        ensures { λ r. ⌜ r ≡ cond (bad self) 5 (cond (isIdle (self .control .operation .phase)) 0 1) ⌝ }
+    // 5, then another refusal unless the call fits what is awaited; 0 where the call is not turned down.
+    fn refusal(self, fits: bool, otherwise: u8) -> u8
+        ensures { λ r. ⌜ r ≡ refusalOf fits otherwise self ⌝ }
     {
         if self.is_bad() {
             return 5;
         }
-        if operation::is_idle(self.phase()) {
+        if fits {
             return 0;
         }
-        1
+        otherwise
+    }
+
+    fn start_refusal(self) -> u8
+        ensures { λ r. ⌜ r ≡ refusalOf (isIdle (self .control .operation .phase)) 1 self ⌝ }
+    {
+        self.refusal(operation::is_idle(self.phase()), 1)
+    }
+
+    // A call is turned down, or its decision is carried out.
+    fn closed(self, refusal: u8, tables: Tables, reset: bool, decision: Decision) -> Answer
+        ensures { λ r. ⌜ r ≡ closed refusal self (carriedOut tables reset decision) ⌝ }
+    {
+        if refusal != 0 {
+            return self.refuse(refusal);
+        }
+        carried_out(tables, reset, decision)
+    }
+
+    fn starting(self, decision: Decision) -> Answer
+        ensures { λ r. ⌜ r ≡ starting self (deciding self decision) ⌝ }
+    {
+        let refusal = self.start_refusal();
+        self.closed(refusal, self.tables(), false, decision)
+    }
+
+    // An outcome, a tick or a taking.
+    fn ending(self, awaited: bool, decision: Decision) -> Answer
+        ensures { λ r. ⌜ r ≡ ending awaited self (deciding self decision) ⌝ }
+    {
+        let refusal = self.refusal(awaited, 2);
+        self.closed(refusal, self.tables(), false, decision)
     }
 }
 
@@ -253,137 +228,91 @@ impl State {
     pub fn start_discovery(self, range: ScanRange) -> Answer
         ensures { λ r. ⌜ r ≡ startDiscovery range self ⌝ }
     {
-        let refusal = self.start_refusal();
-        if refusal != 0 {
-            return self.refuse(refusal);
-        }
-        let decision = operation::asking(Phase::Discovery, RadioRequest::Scan(range), self.control);
-        self.finish(false, decision)
+        self.starting(steps::discovery_started(range, self.control))
     }
 
-    // The state with the candidates for a parent, none of them taken.
-    fn with_chosen(
+    // A table with the candidates for a parent, none of them taken.
+    fn chosen(
         self,
+        table: NeighborTable,
         require_permit_joining: bool,
         extended_pan_id: ExtendedPanId,
         capability_information: CapabilityInformation,
-    ) -> State
-        ensures { λ r. ⌜ r ≡ withChosen «require_permit_joining» («extended_pan_id» .0) «capability_information» self ⌝ }
+    ) -> Tables
+        ensures { λ r. ⌜ r ≡ tablesOf (withChosen «require_permit_joining» («extended_pan_id» .0) «capability_information» (withTable table self)) ⌝ }
     {
         let list = candidates::select_candidates(
-            self.table,
+            table,
             self.control.nlme.nib.stack_profile,
             extended_pan_id,
             capability_information.device_type(),
             require_permit_joining,
         );
         let candidates = Candidates { list, taken: 0 };
-        let mut out = self;
-        out.candidates = candidates;
-        out
+        Tables { table, candidates }
     }
 
-    fn invalid_join(self) -> Answer
-        ensures { λ r. ⌜ r ≡ deciding self (failing InvalidRequest (self .control)) ⌝ }
-    {
-        let decision = join::failing(NlmeJoinStatus::InvalidRequest, self.control);
-        self.finish(false, decision)
-    }
-
-    fn join_with(self, capability_information: CapabilityInformation) -> Answer
-        ensures { λ r. ⌜ r ≡ joinWith «capability_information» self ⌝ }
-    {
-        let next = tries::next(self.table, self.candidates);
-        let decision = join::join_started(self.control, capability_information, next);
-        self.finish(false, decision)
-    }
-
-    fn join_from(self, request: NlmeJoinRequest) -> Answer
-        ensures { λ r. ⌜ r ≡ joinFrom request self ⌝ }
+    fn for_association(self, request: NlmeJoinRequest) -> Tables
+        ensures { λ r. ⌜ r ≡ forAssociation request self ⌝ }
     {
         if self.control.nlme.nib.network_address.0 != nib::NWK_UNASSIGNED_ADDRESS {
-            return self.invalid_join();
+            return self.tables();
         }
-        let capabilities = request.capability_information;
-        let chosen = self.with_chosen(true, request.extended_pan_id, capabilities);
-        chosen.join_with(capabilities)
+        self.chosen(
+            self.table,
+            true,
+            request.extended_pan_id,
+            request.capability_information,
+        )
     }
 
-    fn rejoin(self, request: NlmeJoinRequest) -> Answer
-        ensures { λ r. ⌜ r ≡ deciding self (rejoinStarted request (parent self) (self .control)) ⌝ }
-    {
-        let parent = tries::parent_seen(self.table);
-        let decision = rejoin::rejoin_started(self.control, request, parent);
-        self.finish(false, decision)
-    }
-
-    fn join_by(self, request: NlmeJoinRequest) -> Answer
-        ensures { λ r. ⌜ r ≡ joinBy (request .«rejoin_network») request self ⌝ }
+    // Only an association chooses its candidates at once.
+    fn for_join(self, request: NlmeJoinRequest) -> Tables
+        ensures { λ r. ⌜ r ≡ forJoin (request .«rejoin_network») request self ⌝ }
     {
         let method = request.rejoin_network;
         match method {
-            RejoinNetwork::Association => self.join_from(request),
-            RejoinNetwork::Orphan => self.invalid_join(),
-            RejoinNetwork::NwkRejoin => self.rejoin(request),
-            RejoinNetwork::ChannelChange => self.invalid_join(),
+            RejoinNetwork::Association => self.for_association(request),
+            RejoinNetwork::Orphan => self.tables(),
+            RejoinNetwork::NwkRejoin => self.tables(),
+            RejoinNetwork::ChannelChange => self.tables(),
         }
     }
 
     pub fn join(self, request: NlmeJoinRequest) -> Answer
         ensures { λ r. ⌜ r ≡ startJoin request self ⌝ }
     {
+        let tables = self.for_join(request);
         let refusal = self.start_refusal();
-        if refusal != 0 {
-            return self.refuse(refusal);
-        }
-        self.join_by(request)
+        let decision = steps::join_asked(request, tables, self.control);
+        self.closed(refusal, tables, false, decision)
     }
 
     pub fn send_data(self, destination: ShortAddress, secure: bool) -> Answer
         ensures { λ r. ⌜ r ≡ startSend destination secure self ⌝ }
     {
-        let refusal = self.start_refusal();
-        if refusal != 0 {
-            return self.refuse(refusal);
-        }
         let parent = tries::parent_seen(self.table);
-        let decision = exchange::send_started(self.control, destination, secure, parent);
-        self.finish(false, decision)
+        self.starting(exchange::send_started(self.control, destination, secure, parent))
     }
 
     pub fn poll(self) -> Answer
         ensures { λ r. ⌜ r ≡ startPoll self ⌝ }
     {
-        let refusal = self.start_refusal();
-        if refusal != 0 {
-            return self.refuse(refusal);
-        }
         let parent = tries::parent_seen(self.table);
-        let decision = exchange::poll_started(self.control, parent);
-        self.finish(false, decision)
+        self.starting(exchange::poll_started(self.control, parent))
     }
 
     pub fn receive(self) -> Answer
         ensures { λ r. ⌜ r ≡ startReceive self ⌝ }
     {
-        let refusal = self.start_refusal();
-        if refusal != 0 {
-            return self.refuse(refusal);
-        }
-        let decision = exchange::receive_started(self.control);
-        self.finish(false, decision)
+        self.starting(exchange::receive_started(self.control))
     }
 
     fn start_timeout(self, keepalive: bool) -> Answer
         ensures { λ r. ⌜ r ≡ startTimeout keepalive self ⌝ }
     {
-        let refusal = self.start_refusal();
-        if refusal != 0 {
-            return self.refuse(refusal);
-        }
         let parent = tries::parent_seen(self.table);
-        let decision = exchange::timeout_started(self.control, keepalive, parent);
-        self.finish(false, decision)
+        self.starting(exchange::timeout_started(self.control, keepalive, parent))
     }
 
     pub fn negotiate_end_device_timeout(self) -> Answer
@@ -423,169 +352,116 @@ fn no_networks() -> NlmeNetworkDiscoveryConfirm
     }
 }
 
-fn no_confirm(answer: Answer) -> ScanAnswer
-    ensures { λ r. ⌜ r ≡ noConfirm answer ⌝ }
+fn is_discovery(phase: Phase) -> bool
+    ensures { λ r. ⌜ r ≡ isDiscovery phase ⌝ }
 {
-    let confirm = no_networks();
-    ScanAnswer { answer, confirm }
+    match phase {
+        Phase::Idle => false,
+        Phase::Discovery => true,
+        Phase::RejoinScan => false,
+        Phase::Association => false,
+        Phase::RejoinSend => false,
+        Phase::DataSend => false,
+        Phase::TimeoutSend(_) => false,
+        Phase::LeaveSend(_, _) => false,
+        Phase::Reception(_) => false,
+    }
+}
+
+// The refusal of a list that is too long, 0 for none.
+fn list_refusal(list: PanDescriptorList) -> u8
+    ensures { λ r. ⌜ r ≡ listRefusal list ⌝ }
+{
+    if 27 < list.count {
+        return 3;
+    }
+    if 16 < discovery::short_addressed(list) {
+        return 4;
+    }
+    0
+}
+
+// Only a discovery that is not turned down and has not failed tells of networks.
+fn confirm_of(phase: Phase, refused: u8, outcome: ScanOutcome) -> NlmeNetworkDiscoveryConfirm
+    ensures { λ r. ⌜ r ≡ confirmFor phase refused outcome ⌝ }
+{
+    if refused != 0 {
+        return no_networks();
+    }
+    if outcome.failed {
+        return no_networks();
+    }
+    if is_discovery(phase) {
+        return discovery::network_descriptors(outcome.list);
+    }
+    no_networks()
 }
 
 // The outcome of a scan.
 impl State {
-    fn refuse_scan(self, refusal: u8) -> ScanAnswer
-        ensures { λ r. ⌜ r ≡ noConfirm (refuse refusal self) ⌝ }
+    fn scan_refusal(self, outcome: ScanOutcome) -> u8
+        ensures { λ r. ⌜ r ≡ scanRefusal outcome self ⌝ }
     {
-        no_confirm(self.refuse(refusal))
-    }
-
-    fn discovery_failed(self) -> Answer
-        ensures { λ r. ⌜ r ≡ deciding self (ending DiscoveryFailed (self .control)) ⌝ }
-    {
-        let decision = operation::ending(Step::DiscoveryFailed, self.control);
-        self.finish(false, decision)
-    }
-
-    fn rejoin_scan_failed(self) -> Answer
-        ensures { λ r. ⌜ r ≡ deciding self (failing MacError (self .control)) ⌝ }
-    {
-        let decision = join::failing(NlmeJoinStatus::MacError, self.control);
-        self.finish(false, decision)
-    }
-
-    // A failed scan leaves the table.
-    fn scan_failed(self) -> Answer
-        ensures { λ r. ⌜ r ≡ scanFailed (self .control .operation .phase) self ⌝ }
-    {
-        match self.phase() {
-            Phase::Discovery => self.discovery_failed(),
-            Phase::RejoinScan => self.rejoin_scan_failed(),
-            _ => self.refuse(2),
+        let earlier = self.refusal(operation::awaits_scan(self.phase()), 2);
+        if earlier != 0 {
+            return earlier;
         }
+        if outcome.failed {
+            return 0;
+        }
+        list_refusal(outcome.list)
     }
 
-    fn heard(self, list: PanDescriptorList) -> State
-        ensures { λ r. ⌜ r ≡ heard (descriptorsOf list) self ⌝ }
+    // A failed scan leaves the table. A discovery keeps the candidates, a rejoin chooses them anew.
+    fn after_scan(self, outcome: ScanOutcome) -> Tables
+        ensures { λ r. ⌜ r ≡ afterScan outcome self ⌝ }
     {
-        let table = discovery::neighbor_table_from(list);
-        self.with_table(table)
-    }
-
-    fn rejoin_among(self) -> Answer
-        ensures { λ r. ⌜ r ≡ rejoinAmong self ⌝ }
-    {
-        let next = tries::next(self.table, self.candidates);
-        let decision = rejoin::try_next(NlmeJoinStatus::NotPermitted, next, self.control);
-        self.finish(false, decision)
-    }
-
-    fn rejoin_heard(self, list: PanDescriptorList) -> Answer
-        ensures { λ r. ⌜ r ≡ rejoinHeard (descriptorsOf list) self ⌝ }
-    {
+        if outcome.failed {
+            return self.tables();
+        }
+        let table = discovery::neighbor_table_from(outcome.list);
+        if is_discovery(self.phase()) {
+            return self.with_table(table);
+        }
         let network = self.control.operation.extended_pan_id;
-        let capabilities = self.control.nlme.nib.capability_information;
-        let heard = self.heard(list);
-        let chosen = heard.with_chosen(false, network, capabilities);
-        chosen.rejoin_among()
+        self.chosen(
+            table,
+            false,
+            network,
+            self.control.nlme.nib.capability_information,
+        )
     }
 
-    fn discovery_over(self, list: PanDescriptorList) -> Answer
-        ensures { λ r. ⌜ r ≡ discovered (descriptorsOf list) self .answer ⌝ }
+    fn scanned(self, refusal: u8, outcome: ScanOutcome) -> Answer
+        ensures { λ r. ⌜ r ≡ closed refusal self (carriedOut (afterScan outcome self) false (scanOver (outcome .failed) (afterScan outcome self) (self .control))) ⌝ }
     {
-        let decision = operation::ending(Step::Discovered, self.control);
-        let heard = self.heard(list);
-        heard.finish(false, decision)
-    }
-
-    fn discovered(self, list: PanDescriptorList) -> ScanAnswer
-        ensures { λ r. ⌜ r ≡ discovered (descriptorsOf list) self ⌝ }
-    {
-        let answer = self.discovery_over(list);
-        let confirm = discovery::network_descriptors(list);
-        ScanAnswer { answer, confirm }
-    }
-
-    fn scan_found(self, list: PanDescriptorList) -> ScanAnswer
-        ensures { λ r. ⌜ r ≡ scanFound (self .control .operation .phase) (descriptorsOf list) self ⌝ }
-    {
-        match self.phase() {
-            Phase::Discovery => self.discovered(list),
-            Phase::RejoinScan => no_confirm(self.rejoin_heard(list)),
-            _ => self.refuse_scan(2),
-        }
-    }
-
-    fn scan_listed(self, outcome: ScanOutcome) -> ScanAnswer
-        ensures { λ r. ⌜ r ≡ scanListed outcome self ⌝ }
-    {
-        let list = outcome.list;
-        if 27 < list.count {
-            return self.refuse_scan(3);
-        }
-        if 16 < discovery::short_addressed(list) {
-            return self.refuse_scan(4);
-        }
-        self.scan_found(list)
+        let tables = self.after_scan(outcome);
+        let decision = steps::scan_over(outcome.failed, tables, self.control);
+        self.closed(refusal, tables, false, decision)
     }
 
     pub fn scan_over(self, outcome: ScanOutcome) -> ScanAnswer
         ensures { λ r. ⌜ r ≡ scanned outcome self ⌝ }
     {
-        if self.is_bad() {
-            return self.refuse_scan(5);
-        }
-        if !operation::awaits_scan(self.phase()) {
-            return self.refuse_scan(2);
-        }
-        if outcome.failed {
-            return no_confirm(self.scan_failed());
-        }
-        self.scan_listed(outcome)
+        let refusal = self.scan_refusal(outcome);
+        let confirm = confirm_of(self.phase(), refusal, outcome);
+        let answer = self.scanned(refusal, outcome);
+        ScanAnswer { answer, confirm }
     }
 }
 
 // The outcome of an association.
 impl State {
-    fn associated(self, outcome: AssociationOutcome) -> Answer
-        ensures { λ r. ⌜ r ≡ deciding self (associated outcome (tried self) (next self) (self .control)) ⌝ }
-    {
-        let tried = tries::tried(self.table, self.candidates);
-        let next = tries::next(self.table, self.candidates);
-        let decision = join::association_over(self.control, outcome, tried, next);
-        self.finish(false, decision)
-    }
-
     pub fn association_over(self, outcome: AssociationOutcome) -> Answer
         ensures { λ r. ⌜ r ≡ associationOver outcome self ⌝ }
     {
-        if self.is_bad() {
-            return self.refuse(5);
-        }
-        if !operation::awaits_association(self.phase()) {
-            return self.refuse(2);
-        }
-        self.associated(outcome)
-    }
-}
-
-// What a poll or a receive was for goes on.
-fn continuing(
-    purpose: Purpose,
-    answer: PollAnswer,
-    parent: Neighbor,
-    next: Neighbor,
-    control: Control,
-) -> Decision
-    ensures { λ r. ⌜ r ≡ continuing purpose answer parent next control ⌝ }
-{
-    match purpose {
-        Purpose::RejoinResponse => rejoin::poll_on(parent, next, control),
-        Purpose::SinglePoll => exchange::poll_over(control, answer),
-        Purpose::SingleReceive => exchange::poll_over(control, answer),
-        Purpose::TimeoutResponse(keepalive) => exchange::timeout_poll_on(
-            control,
-            keepalive,
-            parent,
-        ),
+        let tried = tries::tried(self.table, self.candidates);
+        let next = tries::next(self.table, self.candidates);
+        let awaited = operation::awaits_association(self.phase());
+        self.ending(
+            awaited,
+            join::association_over(self.control, outcome, tried, next),
+        )
     }
 }
 
@@ -601,173 +477,117 @@ fn no_data(purpose: Purpose) -> PollAnswer
     }
 }
 
+fn no_data_in(phase: Phase) -> PollAnswer
+    ensures { λ r. ⌜ r ≡ noDataIn phase ⌝ }
+{
+    match phase {
+        Phase::Reception(purpose) => no_data(purpose),
+        Phase::Idle => PollAnswer::PollNothing,
+        Phase::Discovery => PollAnswer::PollNothing,
+        Phase::RejoinScan => PollAnswer::PollNothing,
+        Phase::Association => PollAnswer::PollNothing,
+        Phase::RejoinSend => PollAnswer::PollNothing,
+        Phase::DataSend => PollAnswer::PollNothing,
+        Phase::TimeoutSend(_) => PollAnswer::PollNothing,
+        Phase::LeaveSend(_, _) => PollAnswer::PollNothing,
+    }
+}
+
+fn unheard(nlme: Nlme, answer: PollAnswer) -> Handled
+    ensures { λ r. ⌜ r ≡ record { nlme = nlme; change = KeepTable; then = Over answer } ⌝ }
+{
+    Handled {
+        nlme,
+        change: TableChange::KeepTable,
+        then: Then::Over(answer),
+    }
+}
+
+fn heard(nlme: Nlme, table: NeighborTable, frame: ReceivedFrame) -> Handled
+    ensures { λ r. ⌜ r ≡ handledBy (Received frame) PollNothing table nlme ⌝ }
+{
+    let parent = tries::parent_seen(table);
+    let everyone = ShortAddress(nib::NWK_BROADCAST_ALL);
+    let broadcast = neighbor_table::neighbor_ieee_address(table, everyone);
+    received::process_received_nwk_frame(nlme, parent, broadcast, frame)
+}
+
+// What an outcome does, the table being taught already.
+fn handled(
+    outcome: ReceptionOutcome,
+    no_data: PollAnswer,
+    table: NeighborTable,
+    nlme: Nlme,
+) -> Handled
+    ensures { λ r. ⌜ r ≡ handledBy outcome «no_data» table nlme ⌝ }
+{
+    match outcome {
+        ReceptionOutcome::NoData => unheard(nlme, no_data),
+        ReceptionOutcome::ReceptionFailed => unheard(nlme, PollAnswer::PollMacError),
+        ReceptionOutcome::Received(frame) => heard(nlme, table, frame),
+    }
+}
+
+fn taught(outcome: ReceptionOutcome, table: NeighborTable) -> NeighborTable
+    ensures { λ r. ⌜ r ≡ taughtBy outcome table ⌝ }
+{
+    match outcome {
+        ReceptionOutcome::NoData => table,
+        ReceptionOutcome::ReceptionFailed => table,
+        ReceptionOutcome::Received(frame) => received::learn_neighbor(table, frame),
+    }
+}
+
+fn changed(change: TableChange, table: NeighborTable) -> NeighborTable
+    ensures { λ r. ⌜ r ≡ changedBy change table ⌝ }
+{
+    match change {
+        TableChange::KeepTable => table,
+        TableChange::RemoveNeighbor(address) => neighbor_table::retain(table, address),
+    }
+}
+
 // The outcome of a poll or a receive.
 impl State {
-    fn go_on(self, reset: bool, purpose: Purpose, answer: PollAnswer) -> Answer
-        ensures { λ r. ⌜ r ≡ goOn reset purpose answer self ⌝ }
-    {
-        let parent = tries::parent_seen(self.table);
-        let next = tries::next(self.table, self.candidates);
-        let decision = continuing(purpose, answer, parent, next, self.control);
-        self.finish(reset, decision)
-    }
-
-    fn changed(self, change: TableChange) -> State
-        ensures { λ r. ⌜ r ≡ changed change self ⌝ }
-    {
-        match change {
-            TableChange::KeepTable => self,
-            TableChange::RemoveNeighbor(address) => {
-                let table = neighbor_table::retain(self.table, address);
-                self.with_table(table)
-            }
-        }
-    }
-
-    fn announce(self, purpose: Purpose, transmission: Transmission, rejoin: bool) -> Answer
-        ensures { λ r. ⌜ r ≡ deciding self (asking (LeaveSend purpose rejoin) (Transmit transmission) (self .control)) ⌝ }
-    {
-        let phase = Phase::LeaveSend(purpose, rejoin);
-        let request = RadioRequest::Transmit(transmission);
-        let decision = operation::asking(phase, request, self.control);
-        self.finish(false, decision)
-    }
-
-    fn after(self, purpose: Purpose, then: Then) -> Answer
-        ensures { λ r. ⌜ r ≡ after purpose then self ⌝ }
-    {
-        match then {
-            Then::Over(answer) => self.go_on(false, purpose, answer),
-            Then::Announce(transmission, rejoin) => self.announce(purpose, transmission, rejoin),
-        }
-    }
-
-    fn handled_on(self, purpose: Purpose, handled: Handled) -> Answer
-        ensures { λ r. ⌜ r ≡ handledOn purpose handled self ⌝ }
+    fn received(self, taught: NeighborTable, handled: Handled) -> Answer
+        ensures { λ r. ⌜ r ≡ receivedOn taught handled self ⌝ }
     {
         let change = handled.change;
-        let then = handled.then;
-        let with = self.with_nlme(handled.nlme);
-        let changed = with.changed(change);
-        changed.after(purpose, then)
-    }
-
-    fn processed(self, purpose: Purpose, frame: ReceivedFrame) -> Answer
-        ensures { λ r. ⌜ r ≡ processed purpose frame self ⌝ }
-    {
-        let parent = tries::parent_seen(self.table);
-        let broadcast = neighbor_table::neighbor_ieee_address(
-            self.table,
-            ShortAddress(nib::NWK_BROADCAST_ALL),
-        );
-        let handled = received::process_received_nwk_frame(
-            self.control.nlme,
-            parent,
-            broadcast,
-            frame,
-        );
-        self.handled_on(purpose, handled)
-    }
-
-    fn received_frame(self, purpose: Purpose, frame: ReceivedFrame) -> Answer
-        ensures { λ r. ⌜ r ≡ processed purpose frame (taughtOn frame self) ⌝ }
-    {
-        let table = received::learn_neighbor(self.table, frame);
-        let taught = self.with_table(table);
-        taught.processed(purpose, frame)
-    }
-
-    fn received_for(self, purpose: Purpose, outcome: ReceptionOutcome) -> Answer
-        ensures { λ r. ⌜ r ≡ receivedFor purpose outcome self ⌝ }
-    {
-        match outcome {
-            ReceptionOutcome::NoData => self.go_on(false, purpose, no_data(purpose)),
-            ReceptionOutcome::ReceptionFailed => {
-                self.go_on(false, purpose, PollAnswer::PollMacError)
-            }
-            ReceptionOutcome::Received(frame) => self.received_frame(purpose, frame),
-        }
+        let tables = self.with_table(changed(change, taught));
+        let refusal = self.refusal(steps::awaits_reception(self.phase()), 2);
+        let decision = steps::reception_over(handled, tables, self.control);
+        self.closed(refusal, tables, false, decision)
     }
 
     pub fn reception_over(self, outcome: ReceptionOutcome) -> Answer
         ensures { λ r. ⌜ r ≡ receptionOver outcome self ⌝ }
     {
-        if self.is_bad() {
-            return self.refuse(5);
-        }
-        let phase = self.phase();
-        let Phase::Reception(purpose) = phase else {
-            return self.refuse(2);
-        };
-        self.received_for(purpose, outcome)
+        let table = taught(outcome, self.table);
+        let no_data = no_data_in(self.phase());
+        self.received(table, handled(outcome, no_data, table, self.control.nlme))
     }
 }
 
 // The outcome of a transmission.
 impl State {
-    // After the announcement of a leave.
-    fn left(self, rejoin: bool) -> State
-        ensures { λ r. ⌜ r ≡ left rejoin self ⌝ }
+    // After the announcement of a leave without the rejoin bit the table is empty.
+    fn after_leave(self, leaves: bool) -> Tables
+        ensures { λ r. ⌜ r ≡ afterLeave leaves self ⌝ }
     {
-        let nlme = received::leave_announced(self.control.nlme, rejoin);
-        let announced = self.with_nlme(nlme);
-        if rejoin {
-            return announced;
+        if leaves {
+            return self.with_table(NeighborTable::new());
         }
-        announced.with_table(NeighborTable::new())
-    }
-
-    fn rejoin_sent(self, sent: bool) -> Answer
-        ensures { λ r. ⌜ r ≡ deciding self (requestSent sent (parent self) (next self) (self .control)) ⌝ }
-    {
-        let parent = tries::parent_seen(self.table);
-        let next = tries::next(self.table, self.candidates);
-        let decision = rejoin::request_sent(sent, parent, next, self.control);
-        self.finish(false, decision)
-    }
-
-    fn data_sent(self, sent: bool) -> Answer
-        ensures { λ r. ⌜ r ≡ deciding self (dataSent sent (parent self) (self .control)) ⌝ }
-    {
-        let parent = tries::parent_seen(self.table);
-        let decision = exchange::data_sent(self.control, sent, parent);
-        self.finish(false, decision)
-    }
-
-    fn timeout_sent(self, keepalive: bool, sent: bool) -> Answer
-        ensures { λ r. ⌜ r ≡ deciding self (timeoutRequestSent keepalive sent (parent self) (self .control)) ⌝ }
-    {
-        let parent = tries::parent_seen(self.table);
-        let decision = exchange::timeout_request_sent(self.control, keepalive, sent, parent);
-        self.finish(false, decision)
-    }
-
-    fn leave_sent(self, purpose: Purpose, rejoin: bool) -> Answer
-        ensures { λ r. ⌜ r ≡ goOn (not rejoin) purpose PollNothing (left rejoin self) ⌝ }
-    {
-        let gone = self.left(rejoin);
-        gone.go_on(!rejoin, purpose, PollAnswer::PollNothing)
-    }
-
-    fn sent_in(self, sent: bool) -> Answer
-        ensures { λ r. ⌜ r ≡ sentIn (self .control .operation .phase) sent self ⌝ }
-    {
-        match self.phase() {
-            Phase::RejoinSend => self.rejoin_sent(sent),
-            Phase::DataSend => self.data_sent(sent),
-            Phase::TimeoutSend(keepalive) => self.timeout_sent(keepalive, sent),
-            Phase::LeaveSend(purpose, rejoin) => self.leave_sent(purpose, rejoin),
-            _ => self.refuse(2),
-        }
+        self.tables()
     }
 
     pub fn transmission_over(self, sent: bool) -> Answer
         ensures { λ r. ⌜ r ≡ transmissionOver sent self ⌝ }
     {
-        if self.is_bad() {
-            return self.refuse(5);
-        }
-        self.sent_in(sent)
+        let leaves = steps::leaves_network(self.phase());
+        let tables = self.after_leave(leaves);
+        let refusal = self.refusal(true, 2);
+        let decision = steps::transmission_over(sent, tables, self.control);
+        self.closed(refusal, tables, leaves, decision)
     }
 }
 
@@ -776,40 +596,19 @@ impl State {
     pub fn tick_parent_timeout(self, elapsed_ms: u32) -> Answer
         ensures { λ r. ⌜ r ≡ tick «elapsed_ms» self ⌝ }
     {
-        if self.is_bad() {
-            return self.refuse(5);
-        }
-        let parent = tries::parent_seen(self.table);
-        let nlme = self.control.nlme;
-        let ticked = nlme.tick_parent_timeout(parent, elapsed_ms);
-        let next = self.with_nlme(ticked.nlme);
-        next.saying(Step::Expired(ticked.expired))
+        self.ending(true, steps::ticked(elapsed_ms, self.tables(), self.control))
     }
 
     pub fn take_leave_indication(self) -> Answer
         ensures { λ r. ⌜ r ≡ takeLeaveIndication self ⌝ }
     {
-        if self.is_bad() {
-            return self.refuse(5);
-        }
-        let signals = self.control.nlme.signals;
-        let slot = signals.leave_indication;
-        let taken = signals.with_leave_indication(LeaveIndicationSlot::NoLeaveIndication);
-        let next = self.with_signals(taken);
-        next.saying(Step::LeaveTaken(slot))
+        self.ending(true, steps::leave_taken(self.control))
     }
 
     pub fn take_nwk_status_indication(self) -> Answer
         ensures { λ r. ⌜ r ≡ takeStatusIndication self ⌝ }
     {
-        if self.is_bad() {
-            return self.refuse(5);
-        }
-        let signals = self.control.nlme.signals;
-        let slot = signals.nwk_status_indication;
-        let taken = signals.with_status_indication(StatusIndicationSlot::NoStatusIndication);
-        let next = self.with_signals(taken);
-        next.saying(Step::StatusTaken(slot))
+        self.ending(true, steps::status_taken(self.control))
     }
 
     pub fn select_candidates(

@@ -29,7 +29,8 @@ use Rattle.operation.specs.declared.Phase.the-variants.{Idle}
 use Rattle.rejoin.specs.Rejoin.{invalid, trying, scanOrEnd, tryRemembered, rejoinStarted, tryCandidate, tryNext, tryFailed, polling, unanswered, pollParent, answeredBy, pollOn, requestSent}
 use Rattle.node.specs.Looks.{moved, barred, finish}
 use Rattle.node.specs.Refusals.{strayIndex, bad, starting, always}
-use Rattle.node.specs.Calls.{joinBy, startJoin, heard, chosen, rejoinHeard, scanFound, scanListed, scanned, continuing, changed, after, receivedFor, receivedIn, receptionOver, left, sentIn, transmissionOver}
+use Rattle.steps.specs.Steps.{continuing}
+use Rattle.node.specs.Calls.{joinBy, startJoin, heard, chosen, rejoinHeard, scanFound, scanListed, scanned, changed, after, receivedFor, receivedIn, receptionOver, left, sentIn, transmissionOver}
 use Rattle.node.specs.Runs.{Call, scan, transmission, reception}
 use Rattle.node.specs.declared.State.{State}
 use Rattle.node.specs.declared.ReceptionOutcome.the-variants.{Received}

@@ -28,7 +28,8 @@ use Rattle.operation.specs.declared.Step.{Step}
 use Rattle.operation.specs.declared.Step.the-variants.{Refused, Ask, Discovered, Joined, StatusTaken}
 use Rattle.node.specs.Looks.{entries, moved, barred, finish}
 use Rattle.node.specs.Refusals.{refuse, strayIndex, bad, starting, always}
-use Rattle.node.specs.Calls.{startDiscovery, chosen, joinFrom, joinBy, startJoin, heard, rejoinHeard, discovered, scanFound, scanListed, scanned, continuing, changed, after, receivedFor, receivedIn, receptionOver, sentIn, transmissionOver, takeStatusIndication}
+use Rattle.steps.specs.Steps.{continuing}
+use Rattle.node.specs.Calls.{startDiscovery, chosen, joinFrom, joinBy, startJoin, heard, rejoinHeard, discovered, scanFound, scanListed, scanned, changed, after, receivedFor, receivedIn, receptionOver, sentIn, transmissionOver, takeStatusIndication}
 use Rattle.tries.specs.Tries.{parentIn, triedIndex, skipped, nextIndex, nextIn, strays, taking, adoptedNext}
 use Rattle.neighbor_table.specs.NeighborTable.{found, parentOf, onEntries, learnt, marked, adopted, retained}
 use Rattle.candidates.specs.Candidates.{listOf, eligible, depthAt, candidates}

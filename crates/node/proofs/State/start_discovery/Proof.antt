@@ -1,38 +1,18 @@
 -- `State::start_discovery` meets its contract. Assumes nothing.
-use mathlib.Core.Path.{_∙_}
 use Rattle.node.specs.Calls.{startDiscovery}
-use Rattle.node.proofs.Guards.{turned-down, started}
 use borrow.Author.Needs.{needs}
 use Rattle.node.proofs.State.start_discovery.Statement.{statement}
 use Rattle.node.proofs.State.start_discovery.Tie as tie
 
-start-refusal-requires : tie.Need-start-refusal-requires
-start-refusal-requires c κs = search needs
+discovery-started-requires : tie.Need-discovery-started-requires
+discovery-started-requires c κs = search needs
 
-refuse-requires : tie.Need-refuse-requires
-refuse-requires c κs = search needs
+starting-requires : tie.Need-starting-requires
+starting-requires c κs = search needs
 
 returns : tie.Need-returns
 unfolding startDiscovery
-returns c = c .refuse .ensures ∙ turned-down (c .before .before .before .args .self) _ (c .before .before .start-refusal .result) (c .before .before .start-refusal .ensures) (c .before .if1 .taken)
-
-asking-requires : tie.Need-asking-requires
-asking-requires c κs = search needs
-
-finish-requires : tie.Need-finish-requires
-finish-requires c κs = search needs
-
-returns-2 : tie.Need-returns-2
-unfolding startDiscovery
-returns-2 c = rw (c .finish .ensures, c .before .asking .ensures) (started (c .before .before .before .before .args .self) _ (c .before .before .before .start-refusal .result) (c .before .before .before .start-refusal .ensures) (c .before .before .if1 .left))
+returns c = rw (c .starting .ensures, c .before .discovery-started .ensures)
 
 pub start-discovery-spec : {M : Type 1} → statement M
-start-discovery-spec =
-    tie.close
-    (tie.spec
-    start-refusal-requires
-    refuse-requires
-    returns
-    asking-requires
-    finish-requires
-    returns-2)
+start-discovery-spec = tie.close (tie.spec discovery-started-requires starting-requires returns)

@@ -1,17 +1,7 @@
 -- `State::start_refusal` meets its contract. Assumes nothing.
-use mathlib.Core.Path.{sym, ap, _∙_}
-use Rattle.lists.proofs.Conditions.{pick-true, pick-false}
-use Rattle.operation.specs.Operation.{isIdle}
-use Rattle.node.specs.Refusals.{bad}
 use borrow.Author.Needs.{needs}
 use Rattle.node.proofs.State.start_refusal.Statement.{statement}
 use Rattle.node.proofs.State.start_refusal.Tie as tie
-
-is-bad-requires : tie.Need-is-bad-requires
-is-bad-requires c κs = search needs
-
-returns : tie.Need-returns
-returns c = pick-true (bad (c .before .before .args .self)) _ _ (sym (c .before .is-bad .ensures) ∙ c .if1 .taken)
 
 phase-requires : tie.Need-phase-requires
 phase-requires c κs = search needs
@@ -19,13 +9,11 @@ phase-requires c κs = search needs
 is-idle-requires : tie.Need-is-idle-requires
 is-idle-requires c κs = search needs
 
-returns-2 : tie.Need-returns-2
-returns-2 c = let s = c .before .before .before .before .before .args .self in pick-true (isIdle (s .control .operation .phase)) _ _ (sym (c .before .is-idle .ensures ∙ ap isIdle (c .before .before .phase .ensures)) ∙ c .if2 .taken) ∙ pick-false (bad s) _ _ (sym (c .before .before .before .before .is-bad .ensures) ∙ c .before .before .before .if1 .left)
+refusal-requires : tie.Need-refusal-requires
+refusal-requires c κs = search needs
 
-returns-3 : tie.Need-returns-3
-returns-3 c = let s = c .before .before .before .before .before .args .self in pick-false (isIdle (s .control .operation .phase)) _ _ (sym (c .before .is-idle .ensures ∙ ap isIdle (c .before .before .phase .ensures)) ∙ c .if2 .left) ∙ pick-false (bad s) _ _ (sym (c .before .before .before .before .is-bad .ensures) ∙ c .before .before .before .if1 .left)
+returns : tie.Need-returns
+returns c = rw (c .refusal .ensures, c .before .is-idle .ensures, c .before .before .phase .ensures)
 
 pub start-refusal-spec : {M : Type 1} → statement M
-start-refusal-spec =
-    tie.close
-    (tie.spec is-bad-requires returns phase-requires is-idle-requires returns-2 returns-3)
+start-refusal-spec = tie.close (tie.spec phase-requires is-idle-requires refusal-requires returns)

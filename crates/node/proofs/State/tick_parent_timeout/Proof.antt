@@ -1,47 +1,24 @@
 -- `State::tick_parent_timeout` meets its contract. Assumes nothing.
-use mathlib.Core.Path.{sym, _∙_}
-use Rattle.lists.proofs.Conditions.{pick-true, pick-false}
-use Rattle.node.specs.Refusals.{bad, always}
+use Rattle.node.specs.Looks.{moved, barred, finish}
+use Rattle.node.specs.Refusals.{ending, always}
 use Rattle.node.specs.Calls.{tick}
 use borrow.Author.Needs.{needs}
 use Rattle.node.proofs.State.tick_parent_timeout.Statement.{statement}
 use Rattle.node.proofs.State.tick_parent_timeout.Tie as tie
 
-is-bad-requires : tie.Need-is-bad-requires
-is-bad-requires c κs = search needs
+tables-requires : tie.Need-tables-requires
+tables-requires c κs = search needs
 
-refuse-requires : tie.Need-refuse-requires
-refuse-requires c κs = search needs
+ticked-requires : tie.Need-ticked-requires
+ticked-requires c κs = search needs
+
+ending-requires : tie.Need-ending-requires
+ending-requires c κs = search needs
 
 returns : tie.Need-returns
-unfolding tick always
-returns c = c .refuse .ensures ∙ pick-true (bad (c .before .before .before .args .self)) _ _ (sym (c .before .before .is-bad .ensures) ∙ c .before .if1 .taken)
-
-parent-seen-requires : tie.Need-parent-seen-requires
-parent-seen-requires c κs = search needs
-
-tick-parent-timeout-requires : tie.Need-tick-parent-timeout-requires
-tick-parent-timeout-requires c κs = search needs
-
-with-nlme-requires : tie.Need-with-nlme-requires
-with-nlme-requires c κs = search needs
-
-saying-requires : tie.Need-saying-requires
-saying-requires c κs = search needs
-
-returns-2 : tie.Need-returns-2
-unfolding tick always
-returns-2 c = rw (c .saying .ensures, c .before .with-nlme .ensures, c .before .before .tick-parent-timeout .ensures, c .before .before .before .before .parent-seen .ensures) (pick-false (bad (c .before .before .before .before .before .before .before .args .self)) _ _ (sym (c .before .before .before .before .before .before .is-bad .ensures) ∙ c .before .before .before .before .before .if1 .left))
+unfolding tick always ending finish moved barred
+returns c = rw (c .ending .ensures, c .before .ticked .ensures, c .before .before .tables .ensures)
 
 pub tick-parent-timeout-spec : {M : Type 1} → statement M
 tick-parent-timeout-spec =
-    tie.close
-    (tie.spec
-    is-bad-requires
-    refuse-requires
-    returns
-    parent-seen-requires
-    tick-parent-timeout-requires
-    with-nlme-requires
-    saying-requires
-    returns-2)
+    tie.close (tie.spec tables-requires ticked-requires ending-requires returns)
