@@ -1,0 +1,22 @@
+-- `Session::chosen` meets its contract. Assumes nothing.
+use Rattle.trace_calls.specs.TraceCalls.{chosen}
+use borrow.Author.Needs.{needs}
+use Rattle.trace_calls.proofs.Session.chosen.Statement.{statement}
+use Rattle.trace_calls.proofs.Session.chosen.Tie as tie
+
+select-candidates-requires : tie.Need-select-candidates-requires
+select-candidates-requires c κs = search needs
+
+running-requires : tie.Need-running-requires
+running-requires c κs = search needs
+
+saying-requires : tie.Need-saying-requires
+saying-requires c κs = search needs
+
+returns : tie.Need-returns
+unfolding chosen
+returns c = rw (c .saying .ensures, c .before .before .running .ensures, c .before .before .before .select-candidates .ensures)
+
+pub chosen-spec : {M : Type 1} → statement M
+chosen-spec =
+    tie.close (tie.spec select-candidates-requires running-requires saying-requires returns)

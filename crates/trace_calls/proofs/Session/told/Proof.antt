@@ -1,0 +1,19 @@
+-- `Session::told` meets its contract. Assumes nothing.
+use Rattle.trace_calls.specs.TraceCalls.{told}
+use borrow.Author.Needs.{needs}
+use Rattle.trace_calls.proofs.Session.told.Statement.{statement}
+use Rattle.trace_calls.proofs.Session.told.Tie as tie
+
+running-requires : tie.Need-running-requires
+running-requires c κs = search needs
+
+saying-requires : tie.Need-saying-requires
+saying-requires c κs = search needs
+
+returns : tie.Need-returns
+unfolding told
+returns c = rw (c .saying .ensures, c .before .running .ensures)
+
+pub told-spec : {M : Type 1} → statement M
+told-spec =
+    tie.close (tie.spec running-requires saying-requires returns)

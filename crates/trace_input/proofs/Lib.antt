@@ -1,0 +1,2 @@
+pub mod LineKinds
+pub mod StackProfiles

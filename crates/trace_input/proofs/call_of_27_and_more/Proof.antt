@@ -1,0 +1,51 @@
+-- `call_of_27_and_more` meets its contract. Assumes nothing.
+use mathlib.Core.Path.{refl}
+use native.Mathlib.Omega.{arith}
+use Rattle.trace_input.specs.TraceInput.{calls}
+use Rattle.trace_input.proofs.LineKinds.{of-kind, no-kind}
+use borrow.Author.Needs.{needs}
+use Rattle.trace_input.proofs.call_of_27_and_more.Statement.{statement}
+use Rattle.trace_input.proofs.call_of_27_and_more.Tie as tie
+
+returns : tie.Need-returns
+unfolding calls
+returns c = of-kind 27 (c .before .args .line) (c .match .keys1) refl
+
+returns-2 : tie.Need-returns-2
+unfolding calls
+returns-2 c = of-kind 28 (c .before .args .line) (c .match .keys2) refl
+
+choose-line-requires : tie.Need-choose-line-requires
+choose-line-requires c κs = search needs
+
+returns-3 : tie.Need-returns-3
+unfolding calls
+returns-3 c = of-kind 29 (c .before .before .args .line) (c .before .match .keys3) (c .choose-line .ensures)
+
+returns-4 : tie.Need-returns-4
+unfolding calls
+returns-4 c = of-kind 30 (c .before .args .line) (c .match .keys4) refl
+
+failure-line-requires : tie.Need-failure-line-requires
+failure-line-requires c κs = search needs
+
+returns-5 : tie.Need-returns-5
+unfolding calls
+returns-5 c = of-kind 31 (c .before .before .args .line) (c .before .match .keys5) (c .failure-line .ensures)
+
+returns-6 : tie.Need-returns-6
+unfolding calls
+returns-6 c = no-kind (c .before .args .line) (omega arith)
+
+pub call-of-27-and-more-spec : {M : Type 1} → statement M
+call-of-27-and-more-spec =
+    tie.close
+    (tie.spec
+    returns
+    returns-2
+    choose-line-requires
+    returns-3
+    returns-4
+    failure-line-requires
+    returns-5
+    returns-6)

@@ -1,0 +1,20 @@
+-- `poll_line` meets its contract. Assumes nothing.
+use borrow.Author.Needs.{needs}
+use Rattle.trace_output.proofs.poll_line.Statement.{statement}
+use Rattle.trace_output.proofs.poll_line.Tie as tie
+
+from-u16-requires : tie.Need-from-u16-requires
+from-u16-requires c κs = search needs
+
+from-u16-requires-2 : tie.Need-from-u16-requires-2
+from-u16-requires-2 c κs = search needs
+
+short-line-requires : tie.Need-short-line-requires
+short-line-requires c κs = search needs
+
+returns : tie.Need-returns
+returns c = cc
+
+pub poll-line-spec : {M : Type 1} → statement M
+poll-line-spec =
+    tie.close (tie.spec from-u16-requires from-u16-requires-2 short-line-requires returns)

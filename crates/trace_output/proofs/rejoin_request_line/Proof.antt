@@ -1,0 +1,16 @@
+-- `rejoin_request_line` meets its contract. Assumes nothing.
+use borrow.Author.Needs.{needs}
+use Rattle.trace_output.proofs.rejoin_request_line.Statement.{statement}
+use Rattle.trace_output.proofs.rejoin_request_line.Tie as tie
+
+from-u8-requires : tie.Need-from-u8-requires
+from-u8-requires c κs = search needs
+
+command-line-requires : tie.Need-command-line-requires
+command-line-requires c κs = search needs
+
+returns : tie.Need-returns
+returns c = rw (c .command-line .ensures, c .before .from-u8 .ensures)
+
+pub rejoin-request-line-spec : {M : Type 1} → statement M
+rejoin-request-line-spec = tie.close (tie.spec from-u8-requires command-line-requires returns)
