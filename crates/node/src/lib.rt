@@ -228,7 +228,7 @@ impl State {
     pub fn start_discovery(self, range: ScanRange) -> Answer
         ensures { λ r. ⌜ r ≡ startDiscovery range self ⌝ }
     {
-        self.starting(steps::discovery_started(range, self.control))
+        self.starting(starts::discovery_started(range, self.control))
     }
 
     // A table with the candidates for a parent, none of them taken.
@@ -284,7 +284,7 @@ impl State {
     {
         let tables = self.for_join(request);
         let refusal = self.start_refusal();
-        let decision = steps::join_asked(request, tables, self.control);
+        let decision = starts::join_asked(request, tables, self.control);
         self.closed(refusal, tables, false, decision)
     }
 
@@ -436,7 +436,7 @@ impl State {
         ensures { λ r. ⌜ r ≡ closed refusal self (carriedOut (afterScan outcome self) false (scanOver (outcome .failed) (afterScan outcome self) (self .control))) ⌝ }
     {
         let tables = self.after_scan(outcome);
-        let decision = steps::scan_over(outcome.failed, tables, self.control);
+        let decision = starts::scan_over(outcome.failed, tables, self.control);
         self.closed(refusal, tables, false, decision)
     }
 
@@ -554,8 +554,8 @@ impl State {
     {
         let change = handled.change;
         let tables = self.with_table(changed(change, taught));
-        let refusal = self.refusal(steps::awaits_reception(self.phase()), 2);
-        let decision = steps::reception_over(handled, tables, self.control);
+        let refusal = self.refusal(receptions::awaits_reception(self.phase()), 2);
+        let decision = receptions::reception_over(handled, tables, self.control);
         self.closed(refusal, tables, false, decision)
     }
 
@@ -583,10 +583,10 @@ impl State {
     pub fn transmission_over(self, sent: bool) -> Answer
         ensures { λ r. ⌜ r ≡ transmissionOver sent self ⌝ }
     {
-        let leaves = steps::leaves_network(self.phase());
+        let leaves = receptions::leaves_network(self.phase());
         let tables = self.after_leave(leaves);
         let refusal = self.refusal(true, 2);
-        let decision = steps::transmission_over(sent, tables, self.control);
+        let decision = receptions::transmission_over(sent, tables, self.control);
         self.closed(refusal, tables, leaves, decision)
     }
 }

@@ -1,0 +1,108 @@
+// What starts a discovery, a join or a rejoin, and what follows a scan.
+ghost use mathlib.Core.Path.{_≡_};
+ghost use mathlib.Core.Bool.{cond};
+ghost use lib.Dec.{eqb};
+ghost use Rattle.management.specs.declared.NlmeJoinStatus.the-variants.{InvalidRequest, NotPermitted, MacError};
+ghost use Rattle.join.specs.Join.{failing, joinStarted};
+ghost use Rattle.rejoin.specs.Rejoin.{tryNext};
+ghost use Rattle.operation.specs.declared.Step.the-variants.{DiscoveryFailed, Discovered};
+ghost use Rattle.operation.specs.Operation.{asking, ending};
+ghost use Rattle.operation.specs.declared.Phase.the-variants.{Discovery};
+ghost use Rattle.operation.specs.declared.RadioRequest.the-variants.{Scan};
+ghost use Rattle.steps.specs.Steps.{joinAskedBy, joinAsked, scanOverIn, scanOver};
+use management::NlmeJoinRequest;
+use management::NlmeJoinStatus;
+use management::RejoinNetwork;
+use management::ScanRange;
+use nib::Neighbor;
+use operation::Control;
+use operation::Decision;
+use operation::Phase;
+use operation::RadioRequest;
+use operation::Step;
+use steps::Tables;
+
+fn phase_of(control: Control) -> Phase
+    ensures { λ r. ⌜ r ≡ control .operation .phase ⌝ }
+{
+    let operation = control.operation;
+    operation.phase
+}
+
+// The start of a discovery.
+pub fn discovery_started(range: ScanRange, control: Control) -> Decision
+    ensures { λ r. ⌜ r ≡ asking Discovery (Scan range) control ⌝ }
+{
+    operation::asking(Phase::Discovery, RadioRequest::Scan(range), control)
+}
+
+fn association_asked(request: NlmeJoinRequest, next: Neighbor, control: Control) -> Decision
+    ensures { λ r. ⌜ r ≡ cond (eqb (control .nlme .nib .«network_address» .0) 0xffff) (joinStarted (request .«capability_information») next control) (failing InvalidRequest control) ⌝ }
+{
+    if control.nlme.nib.network_address.0 != nib::NWK_UNASSIGNED_ADDRESS {
+        return join::failing(NlmeJoinStatus::InvalidRequest, control);
+    }
+    join::join_started(control, request.capability_information, next)
+}
+
+fn join_asked_by(
+    request: NlmeJoinRequest,
+    parent: Neighbor,
+    next: Neighbor,
+    control: Control,
+) -> Decision
+    ensures { λ r. ⌜ r ≡ joinAskedBy (request .«rejoin_network») request parent next control ⌝ }
+{
+    let method = request.rejoin_network;
+    match method {
+        RejoinNetwork::Association => association_asked(request, next, control),
+        RejoinNetwork::Orphan => join::failing(NlmeJoinStatus::InvalidRequest, control),
+        RejoinNetwork::NwkRejoin => rejoin::rejoin_started(control, request, parent),
+        RejoinNetwork::ChannelChange => join::failing(NlmeJoinStatus::InvalidRequest, control),
+    }
+}
+
+// The start of a join or a rejoin.
+pub fn join_asked(request: NlmeJoinRequest, tables: Tables, control: Control) -> Decision
+    ensures { λ r. ⌜ r ≡ joinAsked request tables control ⌝ }
+{
+    let parent = tries::parent_seen(tables.table);
+    let next = tries::next(tables.table, tables.candidates);
+    join_asked_by(request, parent, next, control)
+}
+
+fn discovery_over(failed: bool, control: Control) -> Decision
+    ensures { λ r. ⌜ r ≡ cond failed (ending DiscoveryFailed control) (ending Discovered control) ⌝ }
+{
+    if failed {
+        return operation::ending(Step::DiscoveryFailed, control);
+    }
+    operation::ending(Step::Discovered, control)
+}
+
+fn rejoin_scanned(failed: bool, next: Neighbor, control: Control) -> Decision
+    ensures { λ r. ⌜ r ≡ cond failed (failing MacError control) (tryNext NotPermitted next control) ⌝ }
+{
+    if failed {
+        return join::failing(NlmeJoinStatus::MacError, control);
+    }
+    rejoin::try_next(NlmeJoinStatus::NotPermitted, next, control)
+}
+
+fn scan_over_in(phase: Phase, failed: bool, next: Neighbor, control: Control) -> Decision
+    ensures { λ r. ⌜ r ≡ scanOverIn phase failed next control ⌝ }
+{
+    match phase {
+        Phase::Discovery => discovery_over(failed, control),
+        Phase::RejoinScan => rejoin_scanned(failed, next, control),
+        _ => steps::unawaited(control),
+    }
+}
+
+// The outcome of a scan.
+pub fn scan_over(failed: bool, tables: Tables, control: Control) -> Decision
+    ensures { λ r. ⌜ r ≡ scanOver failed tables control ⌝ }
+{
+    let next = tries::next(tables.table, tables.candidates);
+    scan_over_in(phase_of(control), failed, next, control)
+}
