@@ -44,7 +44,7 @@ fn continuing(
     ensures { λ r. ⌜ r ≡ continuing purpose answer parent next control ⌝ }
 {
     match purpose {
-        Purpose::RejoinResponse => rejoin::poll_on(parent, next, control),
+        Purpose::RejoinResponse => rejoin_try::poll_on(parent, next, control),
         Purpose::SinglePoll => exchange::poll_over(control, answer),
         Purpose::SingleReceive => exchange::poll_over(control, answer),
         Purpose::TimeoutResponse(keepalive) => exchange::timeout_poll_on(
@@ -137,7 +137,7 @@ fn transmission_over_in(
     ensures { λ r. ⌜ r ≡ transmissionOverIn phase sent parent next control ⌝ }
 {
     match phase {
-        Phase::RejoinSend => rejoin::request_sent(sent, parent, next, control),
+        Phase::RejoinSend => rejoin_try::request_sent(sent, parent, next, control),
         Phase::DataSend => exchange::data_sent(control, sent, parent),
         Phase::TimeoutSend(keepalive) => exchange::timeout_request_sent(
             control,

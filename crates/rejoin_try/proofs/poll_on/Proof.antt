@@ -1,8 +1,8 @@
 -- `poll_on` meets its contract. Assumes nothing.
 use Rattle.rejoin.specs.Rejoin.{pollOn}
 use borrow.Author.Needs.{needs}
-use Rattle.rejoin.proofs.poll_on.Statement.{statement}
-use Rattle.rejoin.proofs.poll_on.Tie as tie
+use Rattle.rejoin_try.proofs.poll_on.Statement.{statement}
+use Rattle.rejoin_try.proofs.poll_on.Tie as tie
 
 answered-by-requires : tie.Need-answered-by-requires
 answered-by-requires c κs = search needs

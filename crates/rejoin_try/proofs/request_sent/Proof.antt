@@ -1,10 +1,10 @@
 -- `request_sent` meets its contract. Assumes nothing.
 use mathlib.Core.Path.{ap, sym, _∙_}
 use mathlib.Core.Bool.{Bool}
 use Rattle.rejoin.specs.Rejoin.{requestSent}
 use borrow.Author.Needs.{needs}
-use Rattle.rejoin.proofs.request_sent.Statement.{statement}
-use Rattle.rejoin.proofs.request_sent.Tie as tie
+use Rattle.rejoin_try.proofs.request_sent.Statement.{statement}
+use Rattle.rejoin_try.proofs.request_sent.Tie as tie
 
 poll-on-requires : tie.Need-poll-on-requires
 poll-on-requires c κs = search needs

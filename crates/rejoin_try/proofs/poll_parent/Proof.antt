@@ -1,10 +1,10 @@
 -- `poll_parent` meets its contract. Assumes nothing.
 use mathlib.Core.Path.{ap, sym, _∙_}
 use Rattle.nib.specs.declared.Neighbor.{Neighbor}
 use Rattle.rejoin.specs.Rejoin.{pollParent}
 use borrow.Author.Needs.{needs}
-use Rattle.rejoin.proofs.poll_parent.Statement.{statement}
-use Rattle.rejoin.proofs.poll_parent.Tie as tie
+use Rattle.rejoin_try.proofs.poll_parent.Statement.{statement}
+use Rattle.rejoin_try.proofs.poll_parent.Tie as tie
 
 enum-told : tie.Need-enum-told
 enum-told c = search needs

@@ -2,8 +2,8 @@
 use borrow.Author.Tests.{eq-eqb, ne-eqb}
 use lib.Dec.{eqb}
 use Rattle.lists.proofs.Conditions.{pick-true, pick-false}
-use Rattle.rejoin.proofs.remembering.Statement.{statement}
-use Rattle.rejoin.proofs.remembering.Tie as tie
+use Rattle.rejoin_try.proofs.remembering.Statement.{statement}
+use Rattle.rejoin_try.proofs.remembering.Tie as tie
 
 returns : tie.Need-returns
 returns c = pick-true (eqb (c .before .before .args .network .0) 0) _ _ (eq-eqb (c .before .before .args .network .0) 0 (c .if1 .taken))

@@ -1,8 +1,8 @@
 -- `rejoined` meets its contract. Assumes nothing.
 use Rattle.rejoin.specs.Rejoin.{rejoined}
 use borrow.Author.Needs.{needs}
-use Rattle.rejoin.proofs.rejoined.Statement.{statement}
-use Rattle.rejoin.proofs.rejoined.Tie as tie
+use Rattle.rejoin_try.proofs.rejoined.Statement.{statement}
+use Rattle.rejoin_try.proofs.rejoined.Tie as tie
 
 settled-requires : tie.Need-settled-requires
 settled-requires c κs = search needs

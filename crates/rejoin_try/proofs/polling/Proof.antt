@@ -1,8 +1,8 @@
 -- `polling` meets its contract. Assumes nothing.
 use Rattle.rejoin.specs.Rejoin.{polling}
 use borrow.Author.Needs.{needs}
-use Rattle.rejoin.proofs.polling.Statement.{statement}
-use Rattle.rejoin.proofs.polling.Tie as tie
+use Rattle.rejoin_try.proofs.polling.Statement.{statement}
+use Rattle.rejoin_try.proofs.polling.Tie as tie
 
 poll-of-requires : tie.Need-poll-of-requires
 poll-of-requires c κs = search needs

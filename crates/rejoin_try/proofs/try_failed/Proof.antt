@@ -1,10 +1,10 @@
 -- `try_failed` meets its contract. Assumes nothing.
 use mathlib.Core.Path.{_∙_}
 use Rattle.lists.proofs.Conditions.{pick-true, pick-false}
 use Rattle.rejoin.specs.Rejoin.{tryFailed}
 use borrow.Author.Needs.{needs}
-use Rattle.rejoin.proofs.try_failed.Statement.{statement}
-use Rattle.rejoin.proofs.try_failed.Tie as tie
+use Rattle.rejoin_try.proofs.try_failed.Statement.{statement}
+use Rattle.rejoin_try.proofs.try_failed.Tie as tie
 
 try-next-requires : tie.Need-try-next-requires
 try-next-requires c κs = search needs

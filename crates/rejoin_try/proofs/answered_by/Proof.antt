@@ -4,10 +4,10 @@ use mathlib.Core.Path.{ap, sym, _∙_}
 use lib.Dec.{eqb}
 use Rattle.lists.proofs.Conditions.{pick-true, pick-false}
 use Rattle.management.specs.declared.RejoinResponseSlot.{RejoinResponseSlot}
 use Rattle.rejoin.specs.Rejoin.{responded, answeredBy}
 use borrow.Author.Needs.{needs}
-use Rattle.rejoin.proofs.answered_by.Statement.{statement}
-use Rattle.rejoin.proofs.answered_by.Tie as tie
+use Rattle.rejoin_try.proofs.answered_by.Statement.{statement}
+use Rattle.rejoin_try.proofs.answered_by.Tie as tie
 
 enum-known-slot : tie.Need-enum-known-slot
 enum-known-slot c = search needs

@@ -1,7 +1,7 @@
 -- `settled` meets its contract. Assumes nothing.
 use borrow.Author.Needs.{needs}
-use Rattle.rejoin.proofs.settled.Statement.{statement}
-use Rattle.rejoin.proofs.settled.Tie as tie
+use Rattle.rejoin_try.proofs.settled.Statement.{statement}
+use Rattle.rejoin_try.proofs.settled.Tie as tie
 
 remembering-requires : tie.Need-remembering-requires
 remembering-requires c κs = search needs

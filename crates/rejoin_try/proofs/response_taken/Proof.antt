@@ -1,7 +1,7 @@
 -- `response_taken` meets its contract. Assumes nothing.
 use borrow.Author.Needs.{needs}
-use Rattle.rejoin.proofs.response_taken.Statement.{statement}
-use Rattle.rejoin.proofs.response_taken.Tie as tie
+use Rattle.rejoin_try.proofs.response_taken.Statement.{statement}
+use Rattle.rejoin_try.proofs.response_taken.Tie as tie
 
 without-response-requires : tie.Need-without-response-requires
 without-response-requires c κs = search needs

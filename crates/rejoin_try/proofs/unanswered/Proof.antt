@@ -1,8 +1,8 @@
 -- `unanswered` meets its contract. Assumes nothing.
 use Rattle.rejoin.specs.Rejoin.{unanswered}
 use borrow.Author.Needs.{needs}
-use Rattle.rejoin.proofs.unanswered.Statement.{statement}
-use Rattle.rejoin.proofs.unanswered.Tie as tie
+use Rattle.rejoin_try.proofs.unanswered.Statement.{statement}
+use Rattle.rejoin_try.proofs.unanswered.Tie as tie
 
 with-polls-requires : tie.Need-with-polls-requires
 with-polls-requires c κs = search needs

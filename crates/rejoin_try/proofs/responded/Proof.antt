@@ -4,10 +4,10 @@ use mathlib.Core.Path.{ap, _∙_}
 use lib.Dec.{eqb}
 use Rattle.lists.proofs.Conditions.{pick-true, pick-false}
 use Rattle.management.specs.declared.NlmeJoinStatus.{NlmeJoinStatus}
 use Rattle.rejoin.specs.Rejoin.{tryFailed, responded}
 use borrow.Author.Needs.{needs}
-use Rattle.rejoin.proofs.responded.Statement.{statement}
-use Rattle.rejoin.proofs.responded.Tie as tie
+use Rattle.rejoin_try.proofs.responded.Statement.{statement}
+use Rattle.rejoin_try.proofs.responded.Tie as tie
 
 rejoined-requires : tie.Need-rejoined-requires
 rejoined-requires c κs = search needs
