@@ -312,7 +312,7 @@ impl State {
         ensures { λ r. ⌜ r ≡ startTimeout keepalive self ⌝ }
     {
         let parent = tries::parent_seen(self.table);
-        self.starting(exchange::timeout_started(self.control, keepalive, parent))
+        self.starting(negotiation::timeout_started(self.control, keepalive, parent))
     }
 
     pub fn negotiate_end_device_timeout(self) -> Answer

@@ -47,7 +47,7 @@ fn continuing(
         Purpose::RejoinResponse => rejoin_try::poll_on(parent, next, control),
         Purpose::SinglePoll => exchange::poll_over(control, answer),
         Purpose::SingleReceive => exchange::poll_over(control, answer),
-        Purpose::TimeoutResponse(keepalive) => exchange::timeout_poll_on(
+        Purpose::TimeoutResponse(keepalive) => negotiation::timeout_poll_on(
             control,
             keepalive,
             parent,
@@ -139,7 +139,7 @@ fn transmission_over_in(
     match phase {
         Phase::RejoinSend => rejoin_try::request_sent(sent, parent, next, control),
         Phase::DataSend => exchange::data_sent(control, sent, parent),
-        Phase::TimeoutSend(keepalive) => exchange::timeout_request_sent(
+        Phase::TimeoutSend(keepalive) => negotiation::timeout_request_sent(
             control,
             keepalive,
             sent,

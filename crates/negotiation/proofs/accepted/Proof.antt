@@ -1,0 +1,36 @@
+-- `accepted` meets its contract. Assumes nothing.
+use Rattle.exchange.specs.Exchange.{accepted}
+use mathlib.Core.Path.{sym, ap, _∙_}
+use mathlib.Core.Bool.{Bool}
+use borrow.Author.Needs.{needs}
+use Rattle.negotiation.proofs.accepted.Statement.{statement}
+use Rattle.negotiation.proofs.accepted.Tie as tie
+
+refresh-parent-timeout-requires : tie.Need-refresh-parent-timeout-requires
+refresh-parent-timeout-requires c κs = search needs
+
+keepalive-over-requires : tie.Need-keepalive-over-requires
+keepalive-over-requires c κs = search needs
+
+returns : tie.Need-returns
+unfolding accepted
+returns c =
+    let a = c .before .before .before .before .args in
+    rw (c .keepalive-over .ensures, c .before .refresh-parent-timeout .ensures) (sym (ap (λ (x : Bool). accepted x (a .control)) (c .before .before .before .if1 .taken)))
+
+negotiation-over-requires : tie.Need-negotiation-over-requires
+negotiation-over-requires c κs = search needs
+
+returns-2 : tie.Need-returns-2
+unfolding accepted
+returns-2 c = let a = c .before .before .args in c .negotiation-over .ensures ∙ sym (ap (λ (x : Bool). accepted x (a .control)) (c .before .if1 .left))
+
+pub accepted-spec : {M : Type 1} → statement M
+accepted-spec =
+    tie.close
+    (tie.spec
+    refresh-parent-timeout-requires
+    keepalive-over-requires
+    returns
+    negotiation-over-requires
+    returns-2)

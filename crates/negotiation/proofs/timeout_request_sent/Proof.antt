@@ -1,0 +1,25 @@
+-- `timeout_request_sent` meets its contract. Assumes nothing.
+use Rattle.exchange.specs.Exchange.{timeoutRequestSent}
+use mathlib.Core.Path.{sym, ap, _∙_}
+use mathlib.Core.Bool.{Bool}
+use borrow.Author.Needs.{needs}
+use Rattle.negotiation.proofs.timeout_request_sent.Statement.{statement}
+use Rattle.negotiation.proofs.timeout_request_sent.Tie as tie
+
+timeout-poll-on-requires : tie.Need-timeout-poll-on-requires
+timeout-poll-on-requires c κs = search needs
+
+returns : tie.Need-returns
+unfolding timeoutRequestSent
+returns c = let a = c .before .before .args in c .timeout-poll-on .ensures ∙ sym (ap (λ (x : Bool). timeoutRequestSent (a .keepalive) x (a .parent) (a .control)) (c .before .if1 .taken))
+
+request-failed-requires : tie.Need-request-failed-requires
+request-failed-requires c κs = search needs
+
+returns-2 : tie.Need-returns-2
+unfolding timeoutRequestSent
+returns-2 c = let a = c .before .before .args in c .request-failed .ensures ∙ sym (ap (λ (x : Bool). timeoutRequestSent (a .keepalive) x (a .parent) (a .control)) (c .before .if1 .left))
+
+pub timeout-request-sent-spec : {M : Type 1} → statement M
+timeout-request-sent-spec =
+    tie.close (tie.spec timeout-poll-on-requires returns request-failed-requires returns-2)

@@ -1,0 +1,46 @@
+-- `timeout_started` meets its contract. Assumes nothing.
+use Rattle.exchange.specs.Exchange.{notJoined, noTimeoutResponse, timeoutStarted}
+use mathlib.Core.Path.{sym, ap, _∙_}
+use Rattle.nib.specs.declared.Neighbor.{Neighbor}
+use borrow.Author.Needs.{needs}
+use Rattle.negotiation.proofs.timeout_started.Statement.{statement}
+use Rattle.negotiation.proofs.timeout_started.Tie as tie
+
+no-timeout-response-requires : tie.Need-no-timeout-response-requires
+no-timeout-response-requires c κs = search needs
+
+enum-told : tie.Need-enum-told
+enum-told c = search needs
+
+not-joined-requires : tie.Need-not-joined-requires
+not-joined-requires c κs = search needs
+
+returns : tie.Need-returns
+unfolding timeoutStarted
+returns c =
+    let a = c .before .before .before .before .args in
+    rw (c .not-joined .ensures, c .before .before .before .no-timeout-response .ensures) (ap (λ (x : Neighbor). notJoined (a .keepalive) x (noTimeoutResponse (a .control))) (c .before .enum-told .given .1) ∙ sym (ap (λ (x : Neighbor). timeoutStarted (a .keepalive) x (a .control)) (c .before .enum-told .given .1)))
+
+enum-known-parent : tie.Need-enum-known-parent
+enum-known-parent c = search needs
+
+request-timeout-requires : tie.Need-request-timeout-requires
+request-timeout-requires c κs = search needs
+
+returns-2 : tie.Need-returns-2
+unfolding timeoutStarted
+returns-2 c =
+    let a = c .before .before .before .before .before .args in
+    rw (c .request-timeout .ensures, c .before .before .before .before .no-timeout-response .ensures) (sym (ap (λ (x : Neighbor). timeoutStarted (a .keepalive) x (a .control)) (c .before .before .parent .given .1)))
+
+pub timeout-started-spec : {M : Type 1} → statement M
+timeout-started-spec =
+    tie.close
+    (tie.spec
+    no-timeout-response-requires
+    enum-told
+    not-joined-requires
+    returns
+    enum-known-parent
+    request-timeout-requires
+    returns-2)

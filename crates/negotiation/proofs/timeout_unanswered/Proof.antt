@@ -1,0 +1,22 @@
+-- `timeout_unanswered` meets its contract. Assumes nothing.
+use Rattle.exchange.specs.Exchange.{timeoutUnanswered}
+use borrow.Author.Needs.{needs}
+use Rattle.negotiation.proofs.timeout_unanswered.Statement.{statement}
+use Rattle.negotiation.proofs.timeout_unanswered.Tie as tie
+
+with-polls-requires : tie.Need-with-polls-requires
+with-polls-requires c κs = search needs
+
+rejected-requires : tie.Need-rejected-requires
+rejected-requires c κs = search needs
+
+after-polls-requires : tie.Need-after-polls-requires
+after-polls-requires c κs = search needs
+
+returns : tie.Need-returns
+unfolding timeoutUnanswered
+returns c = rw (c .after-polls .ensures, c .before .rejected .ensures, c .before .before .with-polls .ensures)
+
+pub timeout-unanswered-spec : {M : Type 1} → statement M
+timeout-unanswered-spec =
+    tie.close (tie.spec with-polls-requires rejected-requires after-polls-requires returns)
