@@ -50,6 +50,7 @@ use Rattle.join.specs.declared.AssociationOutcome.{AssociationOutcome}
 use Rattle.rejoin.specs.Rejoin.{rejoinStarted, tryNext, requestSent}
 use Rattle.exchange.specs.Exchange.{sendStarted, dataSent, pollStarted, receiveStarted, timeoutStarted, timeoutRequestSent}
 use Rattle.steps.specs.Steps.{continuing}
+use Rattle.receptions.specs.Receptions.{noData}
 use Rattle.tries.specs.declared.Candidates.{Candidates}
 use Rattle.node.specs.declared.State.{State}
 use Rattle.node.specs.declared.Answer.{Answer}
@@ -181,13 +182,6 @@ associationOver o s =
 
 abbrev pub goOn : Bool → Purpose → PollAnswer → State → Answer
 goOn reset p a s = finish reset s (continuing p a (parent s) (next s) (s .control))
-
--- nothing buffered is no error of a poll; a receive that brings nothing is a radio error
-unfoldable pub noData : Purpose → PollAnswer
-noData RejoinResponse = PollNothing
-noData SinglePoll = PollNothing
-noData SingleReceive = PollMacError
-noData (TimeoutResponse keepalive) = PollNothing
 
 abbrev pub withNode : Nlme → State → State
 withNode n s = withControl (withNlme n (s .control)) s

@@ -1,13 +1,19 @@
-// What follows a reception or a transmission, by what awaits it.
+// What follows a poll or a receive, by what awaits it.
 ghost use mathlib.Core.Path.{_≡_};
-ghost use Rattle.management.specs.declared.PollAnswer.the-variants.{PollNothing};
-ghost use Rattle.received.specs.Received.{leaveAnnounced};
+ghost use Rattle.nib.specs.Neighbors.{entriesOf};
+ghost use Rattle.neighbor_table.specs.NeighborTable.{ieeeOf};
+ghost use Rattle.tries.specs.Tries.{parentIn};
+ghost use Rattle.received.specs.Received.{handled};
 ghost use Rattle.operation.specs.Operation.{withNlme, asking, awaitsReception};
 ghost use Rattle.operation.specs.declared.Phase.the-variants.{LeaveSend};
 ghost use Rattle.operation.specs.declared.RadioRequest.the-variants.{Transmit};
-ghost use Rattle.steps.specs.Steps.{continuing, followed, receptionOverIn, receptionOver, transmissionOverIn, transmissionOver, leavesNetwork};
+ghost use Rattle.steps.specs.Steps.{continuing, followed, receptionOverIn, receptionOver};
+ghost use Rattle.receptions.specs.Receptions.{noData, noDataIn, changedBy, decidedOn, frameReceived};
+use frame::ReceivedFrame;
 use management::PollAnswer;
 use nib::Neighbor;
+use nib::NeighborTable;
+use nib::ShortAddress;
 use nlme::Nlme;
 use nlme::Transmission;
 use operation::Control;
@@ -16,15 +22,9 @@ use operation::Phase;
 use operation::Purpose;
 use operation::RadioRequest;
 use received::Handled;
+use received::TableChange;
 use received::Then;
-use steps::Tables;
-
-fn phase_of(control: Control) -> Phase
-    ensures { λ r. ⌜ r ≡ control .operation .phase ⌝ }
-{
-    let operation = control.operation;
-    operation.phase
-}
+use tries::Candidates;
 
 fn with_nlme(control: Control, nlme: Nlme) -> Control
     ensures { λ r. ⌜ r ≡ withNlme nlme control ⌝ }
@@ -34,7 +34,7 @@ fn with_nlme(control: Control, nlme: Nlme) -> Control
 }
 
 // What a poll or a receive was for goes on.
-fn continuing(
+pub fn continuing(
     purpose: Purpose,
     answer: PollAnswer,
     parent: Neighbor,
@@ -98,82 +98,12 @@ fn reception_over_in(
 }
 
 // The outcome of a poll or a receive, once its frame is dealt with.
-pub fn reception_over(handled: Handled, tables: Tables, control: Control) -> Decision
-    ensures { λ r. ⌜ r ≡ receptionOver handled tables control ⌝ }
+pub fn reception_over(then: Then, parent: Neighbor, next: Neighbor, control: Control) -> Decision
+    ensures { λ r. ⌜ r ≡ receptionOver then parent next control ⌝ }
 {
-    let then = handled.then;
-    let parent = tries::parent_seen(tables.table);
-    let next = tries::next(tables.table, tables.candidates);
-    let changed = with_nlme(control, handled.nlme);
-    reception_over_in(phase_of(control), then, parent, next, changed)
-}
-
-fn leave_over(
-    purpose: Purpose,
-    rejoin: bool,
-    parent: Neighbor,
-    next: Neighbor,
-    control: Control,
-) -> Decision
-    ensures { λ r. ⌜ r ≡ continuing purpose PollNothing parent next (withNlme (leaveAnnounced rejoin (control .nlme)) control) ⌝ }
-{
-    let nlme = received::leave_announced(control.nlme, rejoin);
-    continuing(
-        purpose,
-        PollAnswer::PollNothing,
-        parent,
-        next,
-        with_nlme(control, nlme),
-    )
-}
-
-fn transmission_over_in(
-    phase: Phase,
-    sent: bool,
-    parent: Neighbor,
-    next: Neighbor,
-    control: Control,
-) -> Decision
-    ensures { λ r. ⌜ r ≡ transmissionOverIn phase sent parent next control ⌝ }
-{
-    match phase {
-        Phase::RejoinSend => rejoin_try::request_sent(sent, parent, next, control),
-        Phase::DataSend => exchange::data_sent(control, sent, parent),
-        Phase::TimeoutSend(keepalive) => negotiation::timeout_request_sent(
-            control,
-            keepalive,
-            sent,
-            parent,
-        ),
-        Phase::LeaveSend(purpose, rejoin) => leave_over(purpose, rejoin, parent, next, control),
-        _ => steps::unawaited(control),
-    }
-}
-
-// The outcome of a transmission.
-pub fn transmission_over(sent: bool, tables: Tables, control: Control) -> Decision
-    ensures { λ r. ⌜ r ≡ transmissionOver sent tables control ⌝ }
-{
-    let parent = tries::parent_seen(tables.table);
-    let next = tries::next(tables.table, tables.candidates);
-    transmission_over_in(phase_of(control), sent, parent, next, control)
-}
-
-// Whether the transmission under way is a leave's without the rejoin bit.
-pub fn leaves_network(phase: Phase) -> bool
-    ensures { λ r. ⌜ r ≡ leavesNetwork phase ⌝ }
-{
-    match phase {
-        Phase::LeaveSend(_, rejoin) => !rejoin,
-        Phase::Idle => false,
-        Phase::Discovery => false,
-        Phase::RejoinScan => false,
-        Phase::Association => false,
-        Phase::RejoinSend => false,
-        Phase::DataSend => false,
-        Phase::TimeoutSend(_) => false,
-        Phase::Reception(_) => false,
-    }
+    let operation = control.operation;
+    let phase = operation.phase;
+    reception_over_in(phase, then, parent, next, control)
 }
 
 // The outcome of a poll or a receive is awaited.
@@ -191,4 +121,81 @@ pub fn awaits_reception(phase: Phase) -> bool
         Phase::LeaveSend(_, _) => false,
         Phase::Reception(_) => true,
     }
+}
+
+// What a poll or a receive that brings nothing answers.
+fn no_data(purpose: Purpose) -> PollAnswer
+    ensures { λ r. ⌜ r ≡ noData purpose ⌝ }
+{
+    match purpose {
+        Purpose::RejoinResponse => PollAnswer::PollNothing,
+        Purpose::SinglePoll => PollAnswer::PollNothing,
+        Purpose::SingleReceive => PollAnswer::PollMacError,
+        Purpose::TimeoutResponse(_) => PollAnswer::PollNothing,
+    }
+}
+
+pub fn no_data_in(phase: Phase) -> PollAnswer
+    ensures { λ r. ⌜ r ≡ noDataIn phase ⌝ }
+{
+    match phase {
+        Phase::Reception(purpose) => no_data(purpose),
+        _ => PollAnswer::PollNothing,
+    }
+}
+
+// A frame dealt with, the table being taught already.
+fn heard(nlme: Nlme, table: NeighborTable, frame: ReceivedFrame) -> Handled
+    ensures { λ r. ⌜ r ≡ handled (parentIn (entriesOf table)) (ieeeOf 0xffff (entriesOf table)) frame nlme ⌝ }
+{
+    let parent = tries::parent_seen(table);
+    let everyone = ShortAddress(nib::NWK_BROADCAST_ALL);
+    let broadcast = neighbor_table::neighbor_ieee_address(table, everyone);
+    received::process_received_nwk_frame(nlme, parent, broadcast, frame)
+}
+
+fn changed(change: TableChange, table: NeighborTable) -> NeighborTable
+    ensures { λ r. ⌜ r ≡ changedBy change table ⌝ }
+{
+    match change {
+        TableChange::KeepTable => table,
+        TableChange::RemoveNeighbor(address) => neighbor_table::retain(table, address),
+    }
+}
+
+// The table that a frame leaves, and what is decided.
+pub struct FrameDecision {
+    pub table: NeighborTable,
+    pub decision: Decision,
+}
+
+fn decided(
+    then: Then,
+    table: NeighborTable,
+    candidates: Candidates,
+    control: Control,
+) -> FrameDecision
+    ensures { λ r. ⌜ r ≡ decidedOn then table candidates control ⌝ }
+{
+    let parent = tries::parent_seen(table);
+    let next = tries::next(table, candidates);
+    let decision = reception_over(then, parent, next, control);
+    FrameDecision { table, decision }
+}
+
+// A frame that a poll or a receive brings.
+pub fn frame_received(
+    frame: ReceivedFrame,
+    table: NeighborTable,
+    candidates: Candidates,
+    control: Control,
+) -> FrameDecision
+    ensures { λ r. ⌜ r ≡ frameReceived frame table candidates control ⌝ }
+{
+    let taught = received::learn_neighbor(table, frame);
+    let handled = heard(control.nlme, taught, frame);
+    let then = handled.then;
+    let change = handled.change;
+    let left = changed(change, taught);
+    decided(then, left, candidates, with_nlme(control, handled.nlme))
 }

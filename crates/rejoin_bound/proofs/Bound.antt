@@ -40,7 +40,8 @@ use Rattle.rejoin.specs.Rejoin.{invalid, trying, tryRemembered, begun, rejoinSt
 use Rattle.node.specs.Looks.{withTable, entries, parent, next, broadcast, moved, barred, finish}
 use Rattle.node.specs.Refusals.{refuse, bad, starting, ending, always}
 use Rattle.steps.specs.Steps.{continuing}
-use Rattle.node.specs.Calls.{deciding, startDiscovery, chosen, withChosen, joinFrom, joinBy, startJoin, startSend, startPoll, startReceive, startTimeout, heard, scanFailed, rejoinHeard, scanFound, scanListed, scanned, associationOver, goOn, noData, withNode, changed, after, taughtOn, receivedFor, receivedIn, receptionOver, left, sentIn, transmissionOver, tick, takeLeaveIndication, takeStatusIndication}
+use Rattle.receptions.specs.Receptions.{noData}
+use Rattle.node.specs.Calls.{deciding, startDiscovery, chosen, withChosen, joinFrom, joinBy, startJoin, startSend, startPoll, startReceive, startTimeout, heard, scanFailed, rejoinHeard, scanFound, scanListed, scanned, associationOver, goOn, withNode, changed, after, taughtOn, receivedFor, receivedIn, receptionOver, left, sentIn, transmissionOver, tick, takeLeaveIndication, takeStatusIndication}
 use Rattle.node.specs.Runs.{Call, discovery, join, send, poll, receive, timeout, scan, association, transmission, reception, elapsed, takeLeave, takeStatus, answer}
 use Rattle.node.specs.declared.State.{State}
 use Rattle.node.specs.declared.Answer.{Answer}

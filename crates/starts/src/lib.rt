@@ -9,25 +9,20 @@ ghost use Rattle.operation.specs.declared.Step.the-variants.{DiscoveryFailed, D
 ghost use Rattle.operation.specs.Operation.{asking, ending};
 ghost use Rattle.operation.specs.declared.Phase.the-variants.{Discovery};
 ghost use Rattle.operation.specs.declared.RadioRequest.the-variants.{Scan};
-ghost use Rattle.steps.specs.Steps.{joinAskedBy, joinAsked, scanOverIn, scanOver};
+ghost use Rattle.steps.specs.Steps.{joinAsked, scanOverIn, scanOver};
+ghost use Rattle.starts.specs.Starts.{forAssociation, forJoin};
 use management::NlmeJoinRequest;
 use management::NlmeJoinStatus;
 use management::RejoinNetwork;
 use management::ScanRange;
 use nib::Neighbor;
+use nib::NeighborTable;
 use operation::Control;
 use operation::Decision;
 use operation::Phase;
 use operation::RadioRequest;
 use operation::Step;
-use steps::Tables;
-
-fn phase_of(control: Control) -> Phase
-    ensures { λ r. ⌜ r ≡ control .operation .phase ⌝ }
-{
-    let operation = control.operation;
-    operation.phase
-}
+use tries::Candidates;
 
 // The start of a discovery.
 pub fn discovery_started(range: ScanRange, control: Control) -> Decision
@@ -45,13 +40,14 @@ fn association_asked(request: NlmeJoinRequest, next: Neighbor, control: Control)
     join::join_started(control, request.capability_information, next)
 }
 
-fn join_asked_by(
+// The start of a join or a rejoin.
+pub fn join_asked(
     request: NlmeJoinRequest,
     parent: Neighbor,
     next: Neighbor,
     control: Control,
 ) -> Decision
-    ensures { λ r. ⌜ r ≡ joinAskedBy (request .«rejoin_network») request parent next control ⌝ }
+    ensures { λ r. ⌜ r ≡ joinAsked request parent next control ⌝ }
 {
     let method = request.rejoin_network;
     match method {
@@ -62,13 +58,41 @@ fn join_asked_by(
     }
 }
 
-// The start of a join or a rejoin.
-pub fn join_asked(request: NlmeJoinRequest, tables: Tables, control: Control) -> Decision
-    ensures { λ r. ⌜ r ≡ joinAsked request tables control ⌝ }
+fn for_association(
+    request: NlmeJoinRequest,
+    table: NeighborTable,
+    candidates: Candidates,
+    control: Control,
+) -> Candidates
+    ensures { λ r. ⌜ r ≡ forAssociation request table candidates control ⌝ }
 {
-    let parent = tries::parent_seen(tables.table);
-    let next = tries::next(tables.table, tables.candidates);
-    join_asked_by(request, parent, next, control)
+    let nib = control.nlme.nib;
+    if nib.network_address.0 != nib::NWK_UNASSIGNED_ADDRESS {
+        return candidates;
+    }
+    scans::chosen(
+        table,
+        nib.stack_profile,
+        true,
+        request.extended_pan_id,
+        request.capability_information,
+    )
+}
+
+// The candidates of a join: only an association chooses them at once.
+pub fn for_join(
+    request: NlmeJoinRequest,
+    table: NeighborTable,
+    candidates: Candidates,
+    control: Control,
+) -> Candidates
+    ensures { λ r. ⌜ r ≡ forJoin (request .«rejoin_network») request table candidates control ⌝ }
+{
+    let method = request.rejoin_network;
+    match method {
+        RejoinNetwork::Association => for_association(request, table, candidates, control),
+        _ => candidates,
+    }
 }
 
 fn discovery_over(failed: bool, control: Control) -> Decision
@@ -100,9 +124,10 @@ fn scan_over_in(phase: Phase, failed: bool, next: Neighbor, control: Control) ->
 }
 
 // The outcome of a scan.
-pub fn scan_over(failed: bool, tables: Tables, control: Control) -> Decision
-    ensures { λ r. ⌜ r ≡ scanOver failed tables control ⌝ }
+pub fn scan_over(failed: bool, next: Neighbor, control: Control) -> Decision
+    ensures { λ r. ⌜ r ≡ scanOver failed next control ⌝ }
 {
-    let next = tries::next(tables.table, tables.candidates);
-    scan_over_in(phase_of(control), failed, next, control)
+    let operation = control.operation;
+    let phase = operation.phase;
+    scan_over_in(phase, failed, next, control)
 }

@@ -1,6 +1,6 @@
 -- What a call decides by what is awaited, and what a decision writes to the table and the candidates.
 use Prim.Native.Nat.{ℕ}
-use mathlib.Core.Bool.{Bool, false, cond, not}
+use mathlib.Core.Bool.{Bool, true, false, cond, not}
 use lib.Dec.{eqb}
 use lib.ListN.{length}
 use Rattle.nib.specs.Neighbors.{entriesOf}
@@ -41,14 +41,6 @@ use Rattle.rejoin.specs.Rejoin.{rejoinStarted, tryNext, pollOn, requestSent}
 use Rattle.exchange.specs.Exchange.{dataSent, pollOver, timeoutPollOn, timeoutRequestSent}
 use Rattle.steps.specs.declared.Tables.{Tables}
 
--- Looking
-
-abbrev pub parentOfTables : Tables → Neighbor
-parentOfTables t = parentIn (entriesOf (t .table))
-
-abbrev pub nextOfTables : Tables → Neighbor
-nextOfTables t = nextIn (entriesOf (t .table)) (t .candidates)
-
 -- Writing
 
 -- the next candidate is taken
@@ -65,6 +57,14 @@ moving JoinTried t = record { table = onEntries (joinedTried (t .candidates)) (t
 -- the candidate being tried is no longer a potential parent
 unfoldable pub barring : Bool → Tables → Tables
 barring b t = cond b (record { table = onEntries (barredTried (t .candidates)) (t .table); candidates = t .candidates }) t
+
+-- whether a decision writes anything to the table or the candidates
+abbrev pub writes : Bool → Move → Bool
+writes true m = true
+writes false Stay = false
+writes false TakeNext = true
+writes false AdoptNext = true
+writes false JoinTried = true
 
 -- Deciding
 
@@ -92,8 +92,8 @@ joinAskedBy Orphan r p x c = failing InvalidRequest c
 joinAskedBy NwkRejoin r p x c = rejoinStarted r p c
 joinAskedBy ChannelChange r p x c = failing InvalidRequest c
 
-abbrev pub joinAsked : NlmeJoinRequest → Tables → Control → Decision
-joinAsked r t c = joinAskedBy (r .«rejoin_network») r (parentOfTables t) (nextOfTables t) c
+abbrev pub joinAsked : NlmeJoinRequest → Neighbor → Neighbor → Control → Decision
+joinAsked r p x c = joinAskedBy (r .«rejoin_network») r p x c
 
 -- the outcome of a scan, by what awaits it: a discovery, or a rejoin that goes on to its candidates
 unfoldable pub scanOverIn : Phase → Bool → Neighbor → Control → Decision
@@ -107,8 +107,8 @@ scanOverIn (phase.TimeoutSend k) failed x c = unawaited c
 scanOverIn (phase.LeaveSend p r) failed x c = unawaited c
 scanOverIn (phase.Reception p) failed x c = unawaited c
 
-abbrev pub scanOver : Bool → Tables → Control → Decision
-scanOver failed t c = scanOverIn (c .operation .phase) failed (nextOfTables t) c
+abbrev pub scanOver : Bool → Neighbor → Control → Decision
+scanOver failed x c = scanOverIn (c .operation .phase) failed x c
 
 -- what a poll was for goes on: a single poll or receive answers, a rejoin or a negotiation polls on
 unfoldable pub continuing : Purpose → PollAnswer → Neighbor → Neighbor → Control → Decision
@@ -134,8 +134,8 @@ receptionOverIn phase.DataSend h p x c = unawaited c
 receptionOverIn (phase.TimeoutSend k) h p x c = unawaited c
 receptionOverIn (phase.LeaveSend u r) h p x c = unawaited c
 
-abbrev pub receptionOver : Handled → Tables → Control → Decision
-receptionOver h t c = receptionOverIn (c .operation .phase) (h .then) (parentOfTables t) (nextOfTables t) (withNlme (h .nlme) c)
+abbrev pub receptionOver : Then → Neighbor → Neighbor → Control → Decision
+receptionOver h p x c = receptionOverIn (c .operation .phase) h p x c
 
 -- the outcome of a transmission, by what awaits it; after the announcement of a leave the poll goes on
 unfoldable pub transmissionOverIn : Phase → Bool → Neighbor → Neighbor → Control → Decision
@@ -149,8 +149,8 @@ transmissionOverIn phase.RejoinScan ok p x c = unawaited c
 transmissionOverIn phase.Association ok p x c = unawaited c
 transmissionOverIn (phase.Reception u) ok p x c = unawaited c
 
-abbrev pub transmissionOver : Bool → Tables → Control → Decision
-transmissionOver ok t c = transmissionOverIn (c .operation .phase) ok (parentOfTables t) (nextOfTables t) c
+abbrev pub transmissionOver : Bool → Neighbor → Neighbor → Control → Decision
+transmissionOver ok p x c = transmissionOverIn (c .operation .phase) ok p x c
 
 -- the transmission under way is a leave's without the rejoin bit, after which the table is cleared and what lies outside this part is reset
 abbrev pub leavesNetwork : Phase → Bool
@@ -168,8 +168,8 @@ leavesNetwork (phase.Reception u) = false
 abbrev pub clocked : NlmeTicked → Control → Decision
 clocked n c = telling (Expired (n .expired)) (withNlme (n .nlme) c)
 
-abbrev pub ticked : ℕ → Tables → Control → Decision
-ticked elapsed t c = clocked (nlmeTicked (parentOfTables t) elapsed (c .nlme)) c
+abbrev pub ticked : ℕ → Neighbor → Control → Decision
+ticked elapsed p c = clocked (nlmeTicked p elapsed (c .nlme)) c
 
 abbrev pub leaveTaken : Control → Decision
 leaveTaken c =

@@ -2,10 +2,11 @@
 ghost use mathlib.Core.Path.{_≡_};
 ghost use Rattle.operation.specs.Operation.{withNlme};
 ghost use Rattle.nlme.specs.Fields.{withSignals};
-ghost use Rattle.steps.specs.Steps.{withNextTaken, moving, barring, telling, unawaited, ticked, leaveTaken, statusTaken};
+ghost use Rattle.steps.specs.Steps.{withNextTaken, moving, barring, writes, telling, unawaited, ticked, leaveTaken, statusTaken};
 use management::LeaveIndicationSlot;
 use management::Signals;
 use management::StatusIndicationSlot;
+use nib::Neighbor;
 use nib::NeighborTable;
 use nlme::Nlme;
 use operation::Control;
@@ -68,6 +69,21 @@ pub fn written(tables: Tables, clear: bool, candidate: Move) -> Tables
     moved(barred(tables, clear), candidate)
 }
 
+// Whether a decision writes anything to the table or the candidates.
+pub fn writes(clear: bool, candidate: Move) -> bool
+    ensures { λ r. ⌜ r ≡ writes clear candidate ⌝ }
+{
+    if clear {
+        return true;
+    }
+    match candidate {
+        Move::Stay => false,
+        Move::TakeNext => true,
+        Move::AdoptNext => true,
+        Move::JoinTried => true,
+    }
+}
+
 fn with_nlme(control: Control, nlme: Nlme) -> Control
     ensures { λ r. ⌜ r ≡ withNlme nlme control ⌝ }
 {
@@ -105,10 +121,9 @@ pub fn unawaited(control: Control) -> Decision
 }
 
 // The tick of the parent's timer.
-pub fn ticked(elapsed_ms: u32, tables: Tables, control: Control) -> Decision
-    ensures { λ r. ⌜ r ≡ ticked «elapsed_ms» tables control ⌝ }
+pub fn ticked(elapsed_ms: u32, parent: Neighbor, control: Control) -> Decision
+    ensures { λ r. ⌜ r ≡ ticked «elapsed_ms» parent control ⌝ }
 {
-    let parent = tries::parent_seen(tables.table);
     let nlme = control.nlme;
     let ticked = nlme.tick_parent_timeout(parent, elapsed_ms);
     let next = with_nlme(control, ticked.nlme);

@@ -47,7 +47,8 @@ use Rattle.rejoin.specs.Rejoin.{tryNext, pollOn, requestSent}
 use Rattle.node.specs.Looks.{withControl, entries, parent, tried, next, moved, barred, finish}
 use Rattle.node.specs.Refusals.{refuse, strayIndex, bad, starting, ending, always}
 use Rattle.steps.specs.Steps.{continuing}
-use Rattle.node.specs.Calls.{withNode, startDiscovery, chosen, withChosen, joinFrom, joinBy, startJoin, startSend, startPoll, startReceive, startTimeout, heard, scanFailed, rejoinAmong, rejoinHeard, discovered, noConfirm, scanFound, scanListed, scanned, associationOver, goOn, noData, taughtOn, receivedFor, receivedIn, receptionOver, sentIn, transmissionOver, saying, tick, takeLeaveIndication, takeStatusIndication}
+use Rattle.receptions.specs.Receptions.{noData}
+use Rattle.node.specs.Calls.{withNode, startDiscovery, chosen, withChosen, joinFrom, joinBy, startJoin, startSend, startPoll, startReceive, startTimeout, heard, scanFailed, rejoinAmong, rejoinHeard, discovered, noConfirm, scanFound, scanListed, scanned, associationOver, goOn, taughtOn, receivedFor, receivedIn, receptionOver, sentIn, transmissionOver, saying, tick, takeLeaveIndication, takeStatusIndication}
 use Rattle.node.specs.Runs.{Idle, Call, discovery, join, send, poll, receive, timeout, scan, association, transmission, reception, elapsed, takeLeave, takeStatus, answer}
 use Rattle.node.specs.declared.State.{State}
 use Rattle.node.specs.declared.Answer.{Answer}

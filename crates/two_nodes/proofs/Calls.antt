@@ -26,7 +26,8 @@ use Rattle.operation.specs.declared.Decision.{Decision}
 use Rattle.node.specs.Looks.{parent, next, tried, finish}
 use Rattle.node.specs.Refusals.{refuse, bad, starting, ending, always}
 use Rattle.steps.specs.Steps.{continuing}
-use Rattle.node.specs.Calls.{withNode, startDiscovery, joinFrom, joinBy, startJoin, startSend, startPoll, startReceive, startTimeout, heard, scanFailed, rejoinHeard, discovered, scanFound, scanListed, scanned, associationOver, goOn, noData, changed, after, processed, taughtOn, receivedFor, receivedIn, receptionOver, sentIn, transmissionOver, tick, takeLeaveIndication, takeStatusIndication}
+use Rattle.receptions.specs.Receptions.{noData}
+use Rattle.node.specs.Calls.{withNode, startDiscovery, joinFrom, joinBy, startJoin, startSend, startPoll, startReceive, startTimeout, heard, scanFailed, rejoinHeard, discovered, scanFound, scanListed, scanned, associationOver, goOn, changed, after, processed, taughtOn, receivedFor, receivedIn, receptionOver, sentIn, transmissionOver, tick, takeLeaveIndication, takeStatusIndication}
 use Rattle.node.specs.Runs.{Idle, Call, discovery, join, send, poll, receive, timeout, scan, association, transmission, reception, elapsed, takeLeave, takeStatus, answer}
 use Rattle.node.specs.declared.State.{State}
 use Rattle.node.specs.declared.Answer.{Answer}

@@ -3,9 +3,6 @@ use borrow.Author.Needs.{needs}
 use Rattle.steps.proofs.ticked.Statement.{statement}
 use Rattle.steps.proofs.ticked.Tie as tie
 
-parent-seen-requires : tie.Need-parent-seen-requires
-parent-seen-requires c κs = search needs
-
 tick-parent-timeout-requires : tie.Need-tick-parent-timeout-requires
 tick-parent-timeout-requires c κs = search needs
 
@@ -16,13 +13,12 @@ telling-requires : tie.Need-telling-requires
 telling-requires c κs = search needs
 
 returns : tie.Need-returns
-returns c = rw (c .telling .ensures, c .before .with-nlme .ensures, c .before .before .tick-parent-timeout .ensures, c .before .before .before .before .parent-seen .ensures)
+returns c = rw (c .telling .ensures, c .before .with-nlme .ensures, c .before .before .tick-parent-timeout .ensures)
 
 pub ticked-spec : {M : Type 1} → statement M
 ticked-spec =
     tie.close
     (tie.spec
-    parent-seen-requires
     tick-parent-timeout-requires
     with-nlme-requires
     telling-requires

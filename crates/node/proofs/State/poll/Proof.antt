@@ -4,8 +4,8 @@ use borrow.Author.Needs.{needs}
 use Rattle.node.proofs.State.poll.Statement.{statement}
 use Rattle.node.proofs.State.poll.Tie as tie
 
-parent-seen-requires : tie.Need-parent-seen-requires
-parent-seen-requires c κs = search needs
+parent-requires : tie.Need-parent-requires
+parent-requires c κs = search needs
 
 poll-started-requires : tie.Need-poll-started-requires
 poll-started-requires c κs = search needs
@@ -15,8 +15,7 @@ starting-requires c κs = search needs
 
 returns : tie.Need-returns
 unfolding startPoll
-returns c = rw (c .starting .ensures, c .before .poll-started .ensures, c .before .before .parent-seen .ensures)
+returns c = rw (c .starting .ensures, c .before .poll-started .ensures, c .before .before .parent .ensures)
 
 pub poll-spec : {M : Type 1} → statement M
-poll-spec =
-    tie.close (tie.spec parent-seen-requires poll-started-requires starting-requires returns)
+poll-spec = tie.close (tie.spec parent-requires poll-started-requires starting-requires returns)

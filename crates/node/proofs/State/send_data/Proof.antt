@@ -4,8 +4,8 @@ use borrow.Author.Needs.{needs}
 use Rattle.node.proofs.State.send_data.Statement.{statement}
 use Rattle.node.proofs.State.send_data.Tie as tie
 
-parent-seen-requires : tie.Need-parent-seen-requires
-parent-seen-requires c κs = search needs
+parent-requires : tie.Need-parent-requires
+parent-requires c κs = search needs
 
 send-started-requires : tie.Need-send-started-requires
 send-started-requires c κs = search needs
@@ -15,8 +15,8 @@ starting-requires c κs = search needs
 
 returns : tie.Need-returns
 unfolding startSend
-returns c = rw (c .starting .ensures, c .before .send-started .ensures, c .before .before .parent-seen .ensures)
+returns c = rw (c .starting .ensures, c .before .send-started .ensures, c .before .before .parent .ensures)
 
 pub send-data-spec : {M : Type 1} → statement M
 send-data-spec =
-    tie.close (tie.spec parent-seen-requires send-started-requires starting-requires returns)
+    tie.close (tie.spec parent-requires send-started-requires starting-requires returns)

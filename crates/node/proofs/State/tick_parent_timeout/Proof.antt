@@ -6,8 +6,8 @@ use borrow.Author.Needs.{needs}
 use Rattle.node.proofs.State.tick_parent_timeout.Statement.{statement}
 use Rattle.node.proofs.State.tick_parent_timeout.Tie as tie
 
-tables-requires : tie.Need-tables-requires
-tables-requires c κs = search needs
+parent-requires : tie.Need-parent-requires
+parent-requires c κs = search needs
 
 ticked-requires : tie.Need-ticked-requires
 ticked-requires c κs = search needs
@@ -17,8 +17,8 @@ ending-requires c κs = search needs
 
 returns : tie.Need-returns
 unfolding tick always ending finish moved barred
-returns c = rw (c .ending .ensures, c .before .ticked .ensures, c .before .before .tables .ensures)
+returns c = rw (c .ending .ensures, c .before .ticked .ensures, c .before .before .parent .ensures)
 
 pub tick-parent-timeout-spec : {M : Type 1} → statement M
 tick-parent-timeout-spec =
-    tie.close (tie.spec tables-requires ticked-requires ending-requires returns)
+    tie.close (tie.spec parent-requires ticked-requires ending-requires returns)

@@ -1,10 +1,12 @@
 -- `State::transmission_over` meets its contract. Assumes nothing.
-use mathlib.Core.Path.{refl}
+use mathlib.Core.Path.{refl, sym, ap, _∙_}
 use mathlib.Core.Bool.{true}
+use Rattle.operation.specs.declared.Phase.{Phase}
+use Rattle.steps.specs.Steps.{leavesNetwork}
 use Rattle.node.specs.Refusals.{always}
 use Rattle.node.specs.Calls.{transmissionOver}
 use Rattle.node.proofs.Guards.{guarded}
-use Rattle.node.proofs.Closing.{transmission-is}
+use Rattle.node.proofs.Closing.{sent-is, left-is}
 use borrow.Author.Needs.{needs}
 use Rattle.node.proofs.State.transmission_over.Statement.{statement}
 use Rattle.node.proofs.State.transmission_over.Tie as tie
@@ -15,21 +17,31 @@ phase-requires c κs = search needs
 leaves-network-requires : tie.Need-leaves-network-requires
 leaves-network-requires c κs = search needs
 
-after-leave-requires : tie.Need-after-leave-requires
-after-leave-requires c κs = search needs
+left-requires : tie.Need-left-requires
+left-requires c κs = search needs
 
-refusal-requires : tie.Need-refusal-requires
-refusal-requires c κs = search needs
+returns : tie.Need-returns
+unfolding transmissionOver always
+returns c = let a = c .before .before .before .before .args in c .left .ensures ∙ guarded (a .self) true 2 refl (left-is (a .self .control .operation .phase) (a .sent) (a .self) (sym (c .before .before .leaves-network .ensures ∙ ap leavesNetwork (c .before .before .before .phase .ensures)) ∙ c .before .if1 .taken))
+
+parent-requires : tie.Need-parent-requires
+parent-requires c κs = search needs
+
+next-requires : tie.Need-next-requires
+next-requires c κs = search needs
 
 transmission-over-requires : tie.Need-transmission-over-requires
 transmission-over-requires c κs = search needs
 
+refusal-requires : tie.Need-refusal-requires
+refusal-requires c κs = search needs
+
 closed-requires : tie.Need-closed-requires
 closed-requires c κs = search needs
 
-returns : tie.Need-returns
+returns-2 : tie.Need-returns-2
 unfolding transmissionOver always
-returns c = let a = c .before .before .before .before .before .before .args in rw (c .closed .ensures, c .before .transmission-over .ensures, c .before .before .refusal .ensures, c .before .before .before .after-leave .ensures, c .before .before .before .before .leaves-network .ensures, c .before .before .before .before .before .phase .ensures) (guarded (a .self) true 2 refl (transmission-is (a .self .control .operation .phase) (a .sent) (a .self)))
+returns-2 c = let a = c .before .before .before .before .before .before .before .before .args in rw (c .closed .ensures, c .before .refusal .ensures, c .before .before .transmission-over .ensures, c .before .before .before .next .ensures, c .before .before .before .before .parent .ensures) (guarded (a .self) true 2 refl (sent-is (a .self .control .operation .phase) (a .sent) (a .self) (sym (c .before .before .before .before .before .before .leaves-network .ensures ∙ ap leavesNetwork (c .before .before .before .before .before .before .before .phase .ensures)) ∙ c .before .before .before .before .before .if1 .left)))
 
 pub transmission-over-spec : {M : Type 1} → statement M
 transmission-over-spec =
@@ -37,8 +49,11 @@ transmission-over-spec =
     (tie.spec
     phase-requires
     leaves-network-requires
-    after-leave-requires
-    refusal-requires
+    left-requires
+    returns
+    parent-requires
+    next-requires
     transmission-over-requires
+    refusal-requires
     closed-requires
-    returns)
+    returns-2)
