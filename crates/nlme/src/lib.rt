@@ -1,5 +1,6 @@
 // The node's own part of the state, and what calls do to it: frames out, the signal of a parent link failure, and the parent's supervision.
 ghost use mathlib.Core.Path.{_≡_};
+ghost use Rattle.supervision.specs.Keepalive.{keepaliveIntervalMs, keepaliveMethod, negotiatedPollIntervalMs};
 ghost use Rattle.nlme.specs.Nlme.{parentAddress, linkFailure, refreshed, negotiationReset, commandHeader, seqUsed, timeoutRequested, nlmeTicked, sentViaParent, failedViaParent};
 use frame::CommandHeader;
 use frame::SentFrame;
@@ -14,6 +15,8 @@ use nib::OptionalIeee;
 use nib::PanId;
 use nib::ShortAddress;
 use parent_timer::ParentTimer;
+use supervision::KeepaliveMethod;
+use supervision::OptionalPeriod;
 use supervision::TransmitFailures;
 
 pub struct Nlme {
@@ -212,5 +215,25 @@ impl Nlme {
             nlme: out,
             answer: SendAnswer::SendMacError,
         }
+    }
+
+    // The keepalive that the parent expects.
+    pub fn keepalive_method(self) -> KeepaliveMethod
+        ensures { λ r. ⌜ r ≡ keepaliveMethod (self .nib .«end_device_timeout») (self .nib .«parent_information») ⌝ }
+    {
+        supervision::keepalive_method(self.nib.end_device_timeout, self.nib.parent_information)
+    }
+
+    pub fn keepalive_interval_ms(self) -> OptionalPeriod
+        ensures { λ r. ⌜ r ≡ keepaliveIntervalMs (self .nib .«end_device_timeout») ⌝ }
+    {
+        supervision::keepalive_interval_ms(self.nib.end_device_timeout)
+    }
+
+    pub fn negotiated_poll_interval_ms(self) -> OptionalPeriod
+        ensures { λ r. ⌜ r ≡ negotiatedPollIntervalMs (self .nib .«end_device_timeout») (self .nib .«parent_information») ⌝ }
+    {
+        let nib = self.nib;
+        supervision::negotiated_poll_interval_ms(nib.end_device_timeout, nib.parent_information)
     }
 }
