@@ -9,7 +9,7 @@ use Rattle.parent_timer.specs.declared.Ticked.{Ticked}
 abbrev pub left : ℕ → ℕ → ℕ
 left ms elapsed = ms - max elapsed 1
 
--- a timer at 0 is inactive and stays so; any other expires when it reaches 0
+-- "A timer at 0 is inactive, and a tick leaves it so." For any other, reaching 0 is expiry (01, "Supervision record")
 unfoldable pub ticked : ParentTimer → ℕ → Ticked
 ticked t elapsed =
     record {
