@@ -21,7 +21,7 @@ use Rattle.mlme.specs.declared.PanDescriptor.{PanDescriptor}
 use Rattle.discovery.specs.declared.NetworkDescriptor.{NetworkDescriptor}
 use Rattle.discovery.specs.declared.NlmeNetworkDiscoveryConfirm.{NlmeNetworkDiscoveryConfirm}
 
--- the sender at 0x0000 is the coordinator; any other that sends a beacon is a router
+-- the sender at 0x0000 is the coordinator; any other that sends a beacon is a router (Zigbee Table 3-63)
 unfoldable pub deviceType : ℕ → DeviceType
 deviceType address = cond (eqb address 0x0000) Coordinator Router
 
@@ -80,7 +80,7 @@ isShort (Extended pan address) = false
 abbrev pub shortAddressed : List PanDescriptor → ℕ
 shortAddressed ds = length (select (λ d. isShort (d .«coord_address»)) ds)
 
--- a network's beacons are the descriptors with its extended PAN id (01, "Two nodes")
+-- "its beacons" (01, "Two nodes"): the scan's descriptors with the network's extended PAN id n
 abbrev pub beaconOf : ℕ → PanDescriptor → Bool
 beaconOf n d = eqb (d .«zigbee_beacon» .«extended_pan_id» .0) n
 
