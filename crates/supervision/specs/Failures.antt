@@ -65,12 +65,10 @@ transmitFailed f a =
     (record { failures = cleared (recorded f a .failures) a; «link_failed» = true })
     (record { failures = recorded f a .failures; «link_failed» = false })
 
--- The rest is what private functions yield; no promise of a public function names it.
-
--- one pair more behind those in use
+-- one pair more behind those in use, as a state is written down pair by pair
 abbrev pub pushed : TransmitFailures → TransmitFailure → TransmitFailures
 pushed f p = record { pairs = set (f .pairs) (f .count) p; count = f .count + 1 }
 
--- the pair at a place counts one failure more
+-- the pair at a place counts one failure more; no public promise uses it
 abbrev pub countedAt : List TransmitFailure → ℕ → Recorded
 countedAt l k = record { failures = failuresOf (set l k (counted (getD l k blankPair))); total = oneMore (getD l k blankPair .count) }
