@@ -158,7 +158,7 @@ withNetworkLeft n =
       «leave_request_allowed» = n .«leave_request_allowed»;
     }
 
--- what an association sets: own addresses, and the ids of the entry that is the parent now
+-- what an association sets: own addresses, and the ids of the entry that is the parent now (01, "Join request and confirm": "sets addresses, ids"; Zigbee 3.6.1.4.1.1)
 abbrev pub withJoined : ShortAddress → IeeeAddress → NwkNeighbor → Nib → Nib
 withJoined a ieee e n =
     record {
@@ -175,7 +175,7 @@ withJoined a ieee e n =
       «leave_request_allowed» = n .«leave_request_allowed»;
     }
 
--- what a rejoin sets before it tries a candidate
+-- what a rejoin sets before it tries a candidate: its PAN id and update id (`adopt_parent` of the source; Zigbee 3.6.1.4.2)
 abbrev pub withAdopted : NwkNeighbor → Nib → Nib
 withAdopted e n =
     record {

@@ -26,12 +26,12 @@ use Rattle.nlme.specs.declared.Transmission.{Transmission}
 use Rattle.nlme.specs.declared.Transmitting.{Transmitting}
 use Rattle.nlme.specs.Fields.{withNib, withSeq, withPending, withTimer, withSignals, withFailures, withNegotiated}
 
--- the parent's short address as a signal carries it: 0xffff where there is no parent (01, "Supervision record")
+-- "the parent's short address" (01, "Supervision record" and "Two nodes"): the one that a signal carries, 0xffff where there is no parent
 abbrev pub parentAddress : Neighbor → ShortAddress
 parentAddress Absent = record { 0 = 0xffff }
 parentAddress (Entry e) = e .«network_address»
 
--- the signal ParentLinkFailure (Zigbee 3.2.2.32): the slot has the parent's short address
+-- the signal ParentLinkFailure (01, "Supervision record"; Zigbee 3.2.2.32): the slot has the parent's short address
 unfoldable pub linkFailure : Neighbor → Nlme → Nlme
 linkFailure parent n = withSignals (withStatusIndication (HasStatusIndication (record { «network_address» = parentAddress parent })) (n .signals)) n
 
@@ -43,7 +43,7 @@ refreshed n = withTimer (timeouts.refreshed (n .nib .«end_device_timeout»)) n
 unfoldable pub negotiationReset : Nlme → Nlme
 negotiationReset n = withTimer (record { «remaining_ms» = 0 }) (withNib (withNegotiated 0 0xff (n .nib)) n)
 
--- the header of the next command frame: own addresses, the next sequence number (Zigbee 3.3.1)
+-- the header of the next command frame: own addresses, the next sequence number, the destination's IEEE address where it is known (Zigbee 3.3.1 and 3.4.6.2)
 unfoldable pub commandHeader : Nlme → ShortAddress → OptionalIeee → Bool → CommandHeader
 commandHeader n destination ieee secure =
     record {
@@ -55,7 +55,7 @@ commandHeader n destination ieee secure =
       secure = secure;
     }
 
--- a sequence number is used up
+-- a sequence number is used up (01, "Supervision record"); the state has the last one used
 abbrev pub seqUsed : Nlme → Nlme
 seqUsed n = withSeq (nextSeq (n .«nwk_seq»)) n
 
