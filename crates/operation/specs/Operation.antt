@@ -1,4 +1,5 @@
--- The operation under way with some fields replaced, and the common forms of a decision.
+-- The operation under way with some fields replaced, and the common forms of a decision (01, "What must change shape": "Awaited radio calls become a request and a
+-- later outcome").
 use Prim.Native.Nat.{ℕ}
 use mathlib.Core.Bool.{Bool, true, false}
 use Rattle.nlme.specs.declared.Nlme.{Nlme}
@@ -111,7 +112,7 @@ afterPolls k d =
       «polls_used» = k;
     }
 
--- which kind of outcome is awaited
+-- no operation is under way, and which kind of outcome is awaited (01, "When a call is turned down")
 abbrev pub isIdle : Phase → Bool
 isIdle Idle = true
 isIdle Discovery = false
