@@ -33,7 +33,7 @@ failure st = record { status = st; «network_address» = record { 0 = 0xffff }; 
 abbrev pub failing : NlmeJoinStatus → Control → Decision
 failing st c = ending (Joined (failure st)) c
 
--- the request to associate with an entry
+-- the request to associate with an entry (IEEE 802.15.4, association request): by its channel, PAN id and short address, with the stored capabilities
 unfoldable pub associating : Bool → NwkNeighbor → Control → Decision
 associating clear e c =
     record {
@@ -108,6 +108,7 @@ unfoldable pub succeeded : AssociationResponse → Neighbor → Neighbor → Con
 succeeded r Absent next c = candidateFailed false MacError next c
 succeeded r (Entry e) next c = joinedBy r e c
 
+-- "Status 1 and 2 clear potential parent"
 abbrev pub clears : ℕ → Bool
 clears s = cond (eqb s 1) true (eqb s 2)
 
