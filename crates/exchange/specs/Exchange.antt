@@ -50,7 +50,7 @@ unfoldable pub sendStarted : ShortAddress → Bool → Neighbor → Control → 
 sendStarted destination secure Absent c = ending (Sent SendNotJoined) (withNlme (seqUsed (c .nlme)) c)
 sendStarted destination secure (Entry p) c = dataTo destination secure p c
 
--- its outcome
+-- its outcome: "Only sends by `transmit_via_parent` count"
 abbrev pub viaParent : ViaParent → Control → Decision
 viaParent v c = ending (Sent (v .answer)) (withNlme (v .nlme) c)
 
@@ -58,7 +58,7 @@ unfoldable pub dataSent : Bool → Neighbor → Control → Decision
 dataSent true parent c = viaParent (sentViaParent parent (c .nlme)) c
 dataSent false parent c = viaParent (failedViaParent parent (c .nlme)) c
 
--- one poll of the parent, or one passive receive
+-- one poll of the parent (Zigbee 3.6.6), or one passive receive
 unfoldable pub pollStarted : Neighbor → Control → Decision
 pollStarted Absent c = ending (Polled PollNotJoined) c
 pollStarted (Entry p) c = asking (Reception SinglePoll) (Poll (c .nlme .nib .panid) (p .«network_address»)) c
@@ -89,7 +89,7 @@ unfoldable pub rejected : Bool → Neighbor → Control → Decision
 rejected true parent c = keepaliveFailed parent c
 rejected false parent c = ending (NegotiationOver NotNegotiated) c
 
--- the start of a negotiation or keepalive: an old response is dropped, with no parent too; at most 3 polls follow the send
+-- the start of a negotiation or keepalive (Zigbee 3.6.10.2 and 3.6.10.3): an old response is dropped, with no parent too; "at most 3 polls follow a send that succeeded"
 abbrev pub noTimeoutResponse : Control → Control
 noTimeoutResponse c = withNlme (withSignals (withTimeoutResponse NoTimeoutResponse (c .nlme .signals)) (c .nlme)) c
 
