@@ -46,7 +46,7 @@ abbrev pub knownIeee : Neighbor → OptionalIeee
 knownIeee Absent = NoIeee
 knownIeee (Entry e) = cond (eqb (e .«extended_address» .0) 0) NoIeee (Ieee (e .«extended_address»))
 
--- the IEEE address that is known of a short address: that of the first entry with it, even where only a later one has an IEEE address
+-- the IEEE address that is known of a short address (Zigbee 3.4.6.2): that of the first entry with it, even where only a later one has an IEEE address
 unfoldable pub ieeeOf : ℕ → List NwkNeighbor → OptionalIeee
 ieeeOf a es = knownIeee (found a es)
 
@@ -125,7 +125,7 @@ withoutPotential e =
       «pan_id» = e .«pan_id»;
     }
 
--- without its beacon fields, which are those of Zigbee Table 3-64; the PAN id becomes 0xffff (01, "Join request and confirm")
+-- without its "beacon fields" (01, "Join request and confirm"), which are those of Zigbee Table 3-64; the PAN id becomes 0xffff
 abbrev pub cleared : NwkNeighbor → NwkNeighbor
 cleared e =
     record {
