@@ -40,7 +40,7 @@ nextIndex n c = getD (toTry c) (skipped n c) 255
 unfoldable pub nextIn : List NwkNeighbor → Candidates → Neighbor
 nextIn es c = seenIn es (entryAt es (nextIndex (length es) c))
 
--- an index being tried or still to be tried is not below n
+-- an index being tried or still to be tried is not below n (01, "When a call is turned down")
 unfoldable pub strays : ℕ → Candidates → Bool
 strays n c = any (λ i. not (ltb i n)) (drop (c .taken - 1) (itemsOf (c .list)))
 
@@ -54,7 +54,7 @@ taking n c = record { list = c .list; taken = min (c .taken + skipped n c + 1) 2
 unfoldable pub adoptedNext : Candidates → List NwkNeighbor → List NwkNeighbor
 adoptedNext c es = adopted (nextIndex (length es) c) es
 
--- an association makes the one being tried the parent and clears every entry's beacon fields
+-- an association makes the one being tried the parent and clears every entry's beacon fields ("Association status 0 sets .. PARENT (0), and clears the beacon fields of every entry")
 unfoldable pub joinedTried : Candidates → List NwkNeighbor → List NwkNeighbor
 joinedTried c es = allCleared (marked (triedIndex c) es)
 
