@@ -1,4 +1,5 @@
--- What a call decides by what is awaited, and what a decision writes to the table and the candidates.
+-- What a call decides by what is awaited, and what a decision writes to the table and the candidates (01, "Join request and confirm", "Received frame", "When a call
+-- is turned down").
 use Prim.Native.Nat.{ℕ}
 use mathlib.Core.Bool.{Bool, true, false, cond, not}
 use lib.Dec.{eqb}
