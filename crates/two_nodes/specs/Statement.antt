@@ -28,8 +28,9 @@ use Rattle.node.specs.declared.ScanOutcome.{ScanOutcome}
 use Rattle.node.specs.declared.ReceptionOutcome.{ReceptionOutcome}
 use Rattle.node.specs.declared.ReceptionOutcome.the-variants.{NoData, ReceptionFailed, Received}
 
--- what is compared after each call (ticks are lent the state's own record; "The discovery's confirm is not compared"): own addresses, PAN id, extended PAN id, update id and capabilities, which stand in the control part with all else but the
--- neighbour table and the candidates; the parent's short address as a ParentLinkFailure would carry it; the notes; the request, confirm, answer or refusal; the polls used
+-- what is compared after each call: the control part, in which own addresses, PAN id, extended PAN id, update id, capabilities and all else but the neighbour table and the
+-- candidates stand; "The parent's short address is the one that a ParentLinkFailure would carry at that moment"; the notes; the request, confirm, answer or refusal; the
+-- polls used. "The discovery's confirm is not compared." A tick lent the state's own record is the state's tick (`own-record`, crate lent_tick)
 pub record Shown : Type 0 where
   pub control : Control
   pub parent : ShortAddress
@@ -55,7 +56,7 @@ run s [] = []
 run s (c ∷ cs) = shown (answer s c) ∷ run (answer s c .state) cs
 
 -- "Scan outcomes at the same place are equal failures; or both within 27 and 16, the network's beacons equal in every field and in order; or both above 27; or both within 27
--- with above 16 short-addressed." The network's beacons are the scan's descriptors with its extended PAN id n
+-- with above 16 short-addressed." "Its beacons are the scan's descriptors with that id": `beaconOf n`
 pub data AlikeScan (n : ℕ) (o p : ScanOutcome) : Type 0 where
   failures : o .failed ≡ true → p .failed ≡ true → AlikeScan n o p
   within : o .failed ≡ false → p .failed ≡ false → o .list .count ≤ 27 → p .list .count ≤ 27
@@ -102,7 +103,8 @@ pub data Stage : Type 0 where
   after-discovery : Stage
   closed : Stage
 
--- the start of a join or of a rejoin, by its kind, with no operation under way: it names the network n, and a rejoin that names 0 the remembered one
+-- "The network is the non-zero extended PAN id named by the join or rejoin that is called with no operation under way, or the remembered one where that rejoin names 0":
+-- the start of a rejoin (`Begins`) or of a join (`Joins`), by its kind, is one of the network n
 abbrev pub Begins : ℕ → RejoinNetwork → NlmeJoinRequest → State → Type 0
 Begins n NwkRejoin r s = resolved r (s .control .nlme) .0 ≡ n
 Begins n Association r s = ⊥
