@@ -1,4 +1,4 @@
--- What a line of a trace prints (the trace format, "Output").
+-- What a line of a trace prints (compare/FORMAT.md, "Output").
 use Prim.Native.Nat.{ℕ}
 use mathlib.Core.Bool.{Bool, true, false, cond}
 use mathlib.Core.List.{List, [], _∷_, _++_, map, flatMap}
