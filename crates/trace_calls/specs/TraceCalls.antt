@@ -1,4 +1,4 @@
--- A trace's lines taken one by one (trace format): which may come, what each leaves, and what it says of the node.
+-- A trace's lines taken one by one (compare/FORMAT.md): which may come, what each leaves, and what it says of the node.
 use Prim.Native.Nat.{ℕ, _-_}
 use mathlib.Core.Bool.{Bool, true, false, cond}
 use mathlib.Core.List.{[]}
