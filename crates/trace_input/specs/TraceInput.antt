@@ -1,4 +1,4 @@
--- What a line of a trace says, by its kind and the numbers in its fields ("The trace", "Input").
+-- What a line of a trace says, by its kind and the numbers in its fields (compare/FORMAT.md, "Input: the state" and "Input: calls").
 use Prim.Native.Nat.{ℕ, _+_, _*_, _%_}
 use mathlib.Core.Bool.{Bool, true, false, cond}
 use mathlib.Core.List.{List, [], _∷_}
