@@ -1,4 +1,4 @@
--- A line of a trace as numbers, read (the trace format, "Input") and written ("Output"). A text is the list of its bytes; 9 is the tab, 10 the line feed, 32 the
+-- A line of a trace as numbers, read (compare/FORMAT.md, "Input: the state" and "Input: calls") and written ("Output"). A text is the list of its bytes; 9 is the tab, 10 the line feed, 32 the
 -- space, 59 the semicolon.
 use Prim.Native.Nat.{ℕ, _%_}
 use Prim.Native.Char.{code}
