@@ -1,4 +1,4 @@
--- What a node answers, as lines of a trace (the trace's format, "Output"): for each line its kind, and the numbers of its fields in order, of which the first names the line's word.
+-- What a node answers, as lines of a trace (compare/FORMAT.md, "Output"): for each line its kind, and the numbers of its fields in order, of which the first names the line's word.
 use Prim.Native.Nat.{ℕ, _+_}
 use mathlib.Core.Bool.{Bool, true, false, cond}
 use mathlib.Core.List.{List, [], _∷_}
