@@ -1,17 +1,25 @@
 -- Laws of what is looked up, one entry at a time, and of what is looked up after a change. Assumes nothing.
-use Prim.Native.Nat.{ℕ, suc, zero-le, suc-le-suc, compare·suc-suc}
-use mathlib.Core.Path.{_≡_}
+use Prim.Native.Nat.{ℕ, suc, _+_, _<_, zero-le, suc-le-suc, compare·suc-suc}
+use mathlib.Core.Path.{_≡_, _∙_}
 use mathlib.Core.Bool.{Bool, true, false, cond}
 use mathlib.Core.List.{List, _∷_}
 use borrow.Author.Tests.{lt-ltb}
-use lib.ListN.{length}
+use native.Mathlib.Omega.{arith}
+use native.Mathlib.Numerals.{add-one}
+use lib.ListN.{length, drop, getD, length-take}
+use lib.Seq.{drop-cons, getD-take}
 use Rattle.lists.specs.Lists.{firstIndex}
 use Rattle.lists.proofs.First.{first-change}
-use Rattle.nib.specs.Neighbors.{entryAt}
+use Rattle.nib.specs.Neighbors.{entriesOf, entryAt, blank}
 use Rattle.nib.specs.declared.IeeeAddress.{IeeeAddress}
 use Rattle.nib.specs.declared.NwkNeighbor.{NwkNeighbor}
+use Rattle.nib.specs.declared.NeighborTable.{NeighborTable}
 use Rattle.nib.specs.declared.Neighbor.the-variants.{Entry}
 use Rattle.neighbor_table.specs.NeighborTable.{hasAddress, isParent, withIeee, found, parentOf, learnt}
+
+-- an entry in use, as the code reads it
+pub entry-read : (t : NeighborTable) (i : ℕ) → i < length (entriesOf t) → getD (entriesOf t) i blank ≡ getD (t .entries) i blank
+entry-read t i h = getD-take (t .count) (t .entries) i blank (omega (arith, length-take (t .count) (t .entries)))
 
 first-entry : (p : NwkNeighbor → Bool) (e : NwkNeighbor) (es : List NwkNeighbor) → entryAt (e ∷ es) (firstIndex p (e ∷ es)) ≡ cond (p e) (Entry e) (entryAt es (firstIndex p es))
 first-entry p e es = go (p e)
@@ -19,6 +27,14 @@ first-entry p e es = go (p e)
     go : (b : Bool) → entryAt (e ∷ es) (cond b 0 (suc (firstIndex p es))) ≡ cond b (Entry e) (entryAt es (firstIndex p es))
     go true = rw (lt-ltb 0 (suc (length es)) (suc-le-suc zero-le))
     go false = rw compare·suc-suc
+
+-- what is looked up, from what is left of the entries at i
+module _ (p : NwkNeighbor → Bool) (es : List NwkNeighbor) (i : ℕ) (h : i < length es) where
+  pub look-here : p (getD es i blank) ≡ true → entryAt (drop i es) (firstIndex p (drop i es)) ≡ Entry (getD es i blank)
+  look-here t = rw (drop-cons es i blank h) (first-entry p (getD es i blank) (drop (suc i) es) ∙ rw t)
+
+  pub look-on : p (getD es i blank) ≡ false → entryAt (drop i es) (firstIndex p (drop i es)) ≡ entryAt (drop (i + 1) es) (firstIndex p (drop (i + 1) es))
+  look-on t = rw (add-one, drop-cons es i blank h) (first-entry p (getD es i blank) (drop (suc i) es) ∙ rw t)
 
 pub found-cons : (a : ℕ) (e : NwkNeighbor) (es : List NwkNeighbor) → found a (e ∷ es) ≡ cond (hasAddress a e) (Entry e) (found a es)
 unfolding found

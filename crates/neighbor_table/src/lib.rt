@@ -2,7 +2,7 @@
 ghost use mathlib.Core.Path.{_≡_};
 ghost use mathlib.Core.List.{map};
 ghost use Rattle.lists.specs.Lists.{firstIndex, changeAt};
-ghost use Rattle.nib.specs.Neighbors.{entriesOf, tableOf};
+ghost use Rattle.nib.specs.Neighbors.{entriesOf, entryAt, tableOf};
 ghost use Rattle.neighbor_table.specs.NeighborTable.{found, knownIeee, ieeeNumber, seenIn, parentOf, ieeeOf, onEntries, learnt, marked, adopted, allCleared, potentialClearedAt, retained, isWanted, cleared, changed};
 use nib::ExtendedPanId;
 use nib::IeeeAddress;
@@ -45,20 +45,35 @@ fn first(table: NeighborTable, wanted: Wanted) -> u8
     count
 }
 
+// The first entry that is wanted.
+fn look_for(table: NeighborTable, wanted: Wanted) -> Neighbor
+    ensures { λ r. ⌜ r ≡ entryAt (entriesOf table) (firstIndex (isWanted wanted) (entriesOf table)) ⌝ }
+{
+    let count = table.len();
+    let mut i = 0;
+    while i < count {
+        let at = i as usize;
+        let e = table.entries[at];
+        if is_wanted(e, wanted) {
+            return Neighbor::Entry(e);
+        }
+        i += 1;
+    }
+    Neighbor::Absent
+}
+
 // The first entry with a short address.
 pub fn find(table: NeighborTable, address: ShortAddress) -> Neighbor
     ensures { λ r. ⌜ r ≡ found (address .0) (entriesOf table) ⌝ }
 {
-    let index = first(table, Wanted::Address(address));
-    table.get(index)
+    look_for(table, Wanted::Address(address))
 }
 
 // The parent: the first entry with relationship PARENT.
 pub fn parent(table: NeighborTable) -> Neighbor
     ensures { λ r. ⌜ r ≡ parentOf (entriesOf table) ⌝ }
 {
-    let index = first(table, Wanted::Parent);
-    table.get(index)
+    look_for(table, Wanted::Parent)
 }
 
 // The IEEE address of a neighbour, where it is known.
@@ -161,13 +176,13 @@ fn change_at(table: NeighborTable, index: u8, change: Change) -> NeighborTable
     ensures { λ r. ⌜ r ≡ onEntries (changeAt index (changed change)) table ⌝ }
 {
     let mut out = table;
-    let count = table.len();
+    let count = out.len();
     if count <= index {
         return out;
     }
     let at = index as usize;
-    let e = table.entries[at];
-    let new = change_entry(e, change);
+    let old = out.entries[at];
+    let new = change_entry(old, change);
     out.entries[at] = new;
     out
 }
@@ -177,11 +192,11 @@ fn change_all(table: NeighborTable, change: Change) -> NeighborTable
     ensures { λ r. ⌜ r ≡ onEntries (map (changed change)) table ⌝ }
 {
     let mut out = table;
-    let count = table.len();
+    let count = out.len();
     let mut i = 0;
     while i < count {
         let at = i as usize;
-        let e = table.entries[at];
+        let e = out.entries[at];
         let new = change_entry(e, change);
         out.entries[at] = new;
         i += 1;

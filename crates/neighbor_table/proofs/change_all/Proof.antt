@@ -1,32 +1,40 @@
 -- `change_all` meets its contract. Assumes nothing.
-use Prim.Native.Nat.{_≤_, _<_, _-_, _+_}
+use Prim.Native.Nat.{ℕ, suc, _≤_, _<_, _-_, _+_}
 use mathlib.Core.Path.{_≡_, refl, ap, _∙_}
-use mathlib.Core.List.{map}
+use mathlib.Core.List.{List, map}
 use native.Mathlib.Omega.{arith}
 use borrow.Author.Needs.{needs}
-use lib.ListN.{length, set, length-take}
+use lib.ListN.{length, take, drop, getD, set, length-map, length-take}
+use lib.Seq.{drop-cons, getD-at, length-take-le}
 use Rattle.lists.specs.Lists.{onFront}
 use Rattle.lists.proofs.Lists.{length-mapped}
 use Rattle.lists.proofs.Maps.{map-next, take-used, drop-used}
 use Rattle.nib.specs.Neighbors.{blank, entriesOf}
+use Rattle.nib.specs.declared.NwkNeighbor.{NwkNeighbor}
 use Rattle.nib.specs.declared.NeighborTable.{NeighborTable}
 use Rattle.neighbor_table.specs.NeighborTable.{changed, onEntries}
 use Rattle.neighbor_table.proofs.change_all.Statement.{statement}
 use Rattle.neighbor_table.proofs.change_all.Tie as tie
 
+-- the entry at i is not changed yet
+unchanged : (f : NwkNeighbor → NwkNeighbor) (i : ℕ) (es : List NwkNeighbor) → i < length es → getD (onFront i (map f) es) i blank ≡ getD es i blank
+unchanged f i es h =
+    rw (drop-cons es i blank h)
+    (getD-at (map f (take i es)) (getD es i blank) (drop (suc i) es) blank i (length-map (take i es) f ∙ length-take-le i es (omega arith)))
+
 abbrev Inv-loop : tie.InvT-loop
-Inv-loop change table out₀ count i₀ out i =
-    (count ≤ 16) × (i ≤ count) × (out ≡ record { entries = onFront i (map (changed change)) (table .entries); count = table .count })
+Inv-loop change out₀ count i₀ out i =
+    (count ≤ 16) × (i ≤ count) × (out ≡ record { entries = onFront i (map (changed change)) (out₀ .entries); count = out₀ .count })
 
 abbrev μ-loop : tie.MeasureT-loop
-μ-loop change table out₀ count i₀ out i = count - i
+μ-loop change out₀ count i₀ out i = count - i
 
 len-requires : tie.Need-len-requires Inv-loop μ-loop
 len-requires c κs = search needs
 
 loop-holds : tie.Need-loop-holds Inv-loop μ-loop
 loop-holds c =
-    let t = c .before .args .t1 in
+    let t = c .before .args .table in
     let n : length (t .entries) ≡ 16 = search (needs, length-mapped) in
     (omega (arith, c .len .ensures, length-take (t .count) (t .entries)), omega arith, refl)
 
@@ -58,21 +66,21 @@ loop-again : tie.Need-loop-again Inv-loop μ-loop
 loop-again c =
     let b = c .before .before .before in
     let s = b .before .before in
-    let es = s .args .t1 .entries in
+    let es = s .args .table .entries in
     let f = changed (s .args .change) in
     let i = b .loop .i in
     let n : length es ≡ 16 = search (needs, length-mapped) in
     let h : i < length es = omega arith in
     let o : b .loop .out .entries ≡ onFront i (map f) es = ap (λ (r : NeighborTable). r .entries) (b .loop .inv .2) in
-    let q : b .loop .out .count ≡ s .args .t1 .count = ap (λ (r : NeighborTable). r .count) (b .loop .inv .2) in
-    let p : set (b .loop .out .entries) i (c .change-entry .result) ≡ onFront (i + 1) (map f) es = rw (c .change-entry .ensures, o) (map-next f i es blank h) in
+    let q : b .loop .out .count ≡ s .args .table .count = ap (λ (r : NeighborTable). r .count) (b .loop .inv .2) in
+    let p : set (b .loop .out .entries) i (c .change-entry .result) ≡ onFront (i + 1) (map f) es = rw (c .change-entry .ensures, o, unchanged f i es h) (map-next f i es blank h) in
     (b .loop .inv .0, omega arith, λ j. record { entries = p j; count = q j })
 
 returns : tie.Need-returns Inv-loop μ-loop
 unfolding onEntries
 returns c =
     let s = c .before .before .before in
-    let t = s .args .t1 in
+    let t = s .args .table in
     let f = changed (s .args .change) in
     let e : c .before .loop .i ≡ length (entriesOf t) = omega (arith, c .before .before .len .ensures) in
     c .before .loop .inv .2 ∙ rw (e, take-used (t .count) (t .entries), drop-used (t .count) (t .entries))

@@ -20,21 +20,21 @@ returns : tie.Need-returns
 returns c =
     let s = c .before .before in
     let f = changed (s .args .change) in
-    let h : length (entriesOf (s .args .t1)) ≤ s .args .index = omega (arith, c .before .len .ensures) in
-    sym (on-kept (changeAt (s .args .index) f) (s .args .t1) (change-past f (s .args .index) (entriesOf (s .args .t1)) h))
+    let h : length (entriesOf (s .args .table)) ≤ s .args .index = omega (arith, c .before .len .ensures) in
+    sym (on-kept (changeAt (s .args .index) f) (s .args .table) (change-past f (s .args .index) (entriesOf (s .args .table)) h))
 
-mul-e : tie.Need-mul-e
-mul-e c = search needs
+mul-old : tie.Need-mul-old
+mul-old c = search needs
 
 -- past the test: the index is below 16, and below the count
-below : (c : tie.Else1) → (c .before .before .args .index < 16) × (c .before .before .args .index < c .before .before .args .t1 .count)
+below : (c : tie.Else1) → (c .before .before .args .index < 16) × (c .before .before .args .index < c .before .before .args .table .count)
 below c =
-    let t = c .before .before .args .t1 in
+    let t = c .before .before .args .table in
     let n : length (t .entries) ≡ 16 = search (needs, length-mapped) in
     (omega (arith, c .before .len .ensures, length-take (t .count) (t .entries)), omega (arith, c .before .len .ensures, length-take (t .count) (t .entries)))
 
-element-copy-out-e : tie.Need-element-copy-out-e
-element-copy-out-e c = below c .0
+element-copy-out-old : tie.Need-element-copy-out-old
+element-copy-out-old c = below c .0
 
 change-entry-requires : tie.Need-change-entry-requires
 change-entry-requires c κs = search needs
@@ -49,7 +49,7 @@ returns-2 : tie.Need-returns-2
 unfolding onEntries
 returns-2 c =
     let s = c .before .before .before .before in
-    let t = s .args .t1 in
+    let t = s .args .table in
     rw (c .change-entry .ensures, change-set (changed (s .args .change)) (t .count) (s .args .index) (t .entries) blank (below (c .before .before) .1))
 
 pub change-at-spec : {M : Type 1} → statement M
@@ -58,8 +58,8 @@ change-at-spec =
     (tie.spec
     len-requires
     returns
-    mul-e
-    element-copy-out-e
+    mul-old
+    element-copy-out-old
     change-entry-requires
     mul-new
     element-set-from-new

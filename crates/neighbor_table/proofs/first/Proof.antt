@@ -1,16 +1,16 @@
 -- `first` meets its contract. Assumes nothing.
 use Prim.Native.Nat.{_≤_, _<_, _-_, _+_}
-use mathlib.Core.Path.{_≡_, sym, _∙_}
+use mathlib.Core.Path.{_≡_, sym, ap, _∙_}
 use mathlib.Core.List.{[]}
 use native.Mathlib.Omega.{arith}
 use borrow.Author.Needs.{needs}
 use lib.ListN.{length, drop, getD, length-take, drop-of-length-le}
-use lib.Seq.{getD-take}
 use Rattle.lists.specs.Lists.{firstIndex}
 use Rattle.lists.proofs.Lists.{length-mapped}
 use Rattle.lists.proofs.First.{first-here, first-on}
 use Rattle.nib.specs.Neighbors.{blank, entriesOf}
 use Rattle.neighbor_table.specs.NeighborTable.{isWanted}
+use Rattle.neighbor_table.proofs.Looks.{entry-read}
 use Rattle.neighbor_table.proofs.first.Statement.{statement}
 use Rattle.neighbor_table.proofs.first.Tie as tie
 
@@ -48,10 +48,8 @@ below c = omega (arith, c .before .before .before .before .len .ensures)
 
 test : (c : tie.After-is-wanted Inv-loop μ-loop) → isWanted (c .before .before .before .before .before .args .wanted) (getD (entriesOf (c .before .before .before .before .before .args .t1)) (c .before .before .before .loop .i) blank) ≡ c .is-wanted .result
 test c =
-    let t = c .before .before .before .before .before .args .t1 in
-    let i = c .before .before .before .loop .i in
-    let k : i < t .count = omega (arith, below c, length-take (t .count) (t .entries)) in
-    rw (getD-take (t .count) (t .entries) i blank k) (sym (c .is-wanted .ensures))
+    let a = c .before .before .before .before .before .args in
+    ap (isWanted (a .wanted)) (entry-read (a .t1) (c .before .before .before .loop .i) (below c)) ∙ sym (c .is-wanted .ensures)
 
 returns : tie.Need-returns Inv-loop μ-loop
 returns c =
