@@ -1,24 +1,25 @@
 -- Laws of the entries made from a scan's descriptors. Assumes nothing.
 use Prim.Native.Nat.{ℕ, _+_, _<_, _≤_}
-use mathlib.Core.Path.{_≡_, refl, sym, ap}
+use mathlib.Core.Path.{_≡_, refl}
 use mathlib.Core.Bool.{Bool, true, false, cond}
 use mathlib.Core.List.{List, [], _∷_, _++_, append-nil}
 use native.Mathlib.Omega.{arith}
 use borrow.Author.Tests.{ltb-true, ltb-false, le-ltb}
 use lib.Dec.{ltb, eqb}
-use lib.ListN.{length, take, getD, length-append}
-use lib.Seq.{take-all, take-append-le, length-take-le}
+use lib.ListN.{length, take, getD, set, length-append}
+use lib.Seq.{set-getD, take-all, take-append-le, length-take-le}
 use Rattle.lists.specs.Lists.{select}
 use Rattle.lists.proofs.Collect.{flatMap-next, select-flatMap, length-flatMap}
-use Rattle.nib.specs.Neighbors.{tableOf, pushed}
+use Rattle.nib.specs.Neighbors.{blank, tableOf, pushed}
 use Rattle.nib.specs.declared.Neighbor.{Neighbor}
 use Rattle.nib.specs.declared.Neighbor.the-variants.{Absent, Entry}
+use Rattle.nib.specs.declared.NeighborTable.{NeighborTable}
 use Rattle.nib.specs.declared.NwkNeighbor.{NwkNeighbor}
 use Rattle.nib.proofs.Tables.{push-of}
 use Rattle.mlme.specs.declared.Address.{Address}
 use Rattle.mlme.specs.declared.Address.the-variants.{Short, Extended}
 use Rattle.mlme.specs.declared.PanDescriptor.{PanDescriptor}
-use Rattle.discovery.specs.Discovery.{entryOf, neighborBy, neighborOf, present, neighborsOf, isShort, shortAddressed, beaconOf, added}
+use Rattle.discovery.specs.Discovery.{entryOf, neighborBy, neighborOf, present, neighborsOf, isShort, shortAddressed, beaconOf, slotOf, placedIn, countedIn}
 
 -- what a read past the end of the descriptors gives
 abbrev pub noDescriptor : PanDescriptor
@@ -66,16 +67,30 @@ network-neighbors n ds = select-flatMap entriesFrom (beaconOf n) (λ e. eqb (e .
     own d (Short p a) = refl
     own d (Extended p a) = none (beaconOf n d)
 
--- a table of at most the first 16 entries, with what there is at its end
+-- a table with one entry more, as the code writes it
+abbrev pub added : NeighborTable → Neighbor → NeighborTable
+added t x =
+    record {
+      entries = set (t .entries) (slotOf (t .count)) (placedIn x (t .count) (getD (t .entries) (slotOf (t .count)) blank));
+      count = countedIn x (t .count);
+    }
+
+-- in a table of at most the first 16 entries it is what there is at their end
 pub added-next : (l : List NwkNeighbor) (x : Neighbor) → added (tableOf (take 16 l)) x ≡ tableOf (take 16 (l ++ present x))
 unfolding present pushed
-added-next l Absent = ap (λ (k : List NwkNeighbor). tableOf (take 16 k)) (sym (append-nil l))
-added-next l (Entry e) = go (ltb (length l) 16) refl
+added-next l x = go x (ltb (length l) 16) refl
   where
-    go : (b : Bool) → ltb (length l) 16 ≡ b → pushed (tableOf (take 16 l)) e ≡ tableOf (take 16 (l ++ (e ∷ [])))
-    go true q =
+    -- what stands in a place is added there again
+    same : (t : NeighborTable) (k : ℕ) → _≡_ {A = NeighborTable} (record { entries = set (t .entries) k (getD (t .entries) k blank); count = t .count }) t
+    same t k = λ i. record { entries = set-getD (t .entries) k blank i; count = t .count }
+
+    go : (x : Neighbor) (b : Bool) → ltb (length l) 16 ≡ b → added (tableOf (take 16 l)) x ≡ tableOf (take 16 (l ++ present x))
+    go Absent true q =
         let h : length l < 16 = ltb-true (length l) 16 q in
-        rw (take-all 16 l (omega arith), take-all 16 (l ++ (e ∷ [])) (omega (arith, length-append l (e ∷ [])))) (push-of l e h)
-    go false q =
+        rw (append-nil l, take-all 16 l (omega arith), q) (same (tableOf l) (length l))
+    go (Entry e) true q =
+        let h : length l < 16 = ltb-true (length l) 16 q in
+        rw (take-all 16 l (omega arith), take-all 16 (l ++ (e ∷ [])) (omega (arith, length-append l (e ∷ []))), q) (rw q at (push-of l e h))
+    go x false q =
         let h : 16 ≤ length l = ltb-false (length l) 16 q in
-        rw (le-ltb (length (take 16 l)) 16 (omega (arith, length-take-le 16 l h)), take-append-le 16 l (e ∷ []) h)
+        rw (le-ltb (length (take 16 l)) 16 (omega (arith, length-take-le 16 l h)), take-append-le 16 l (present x) h) (same (tableOf (take 16 l)) 15)

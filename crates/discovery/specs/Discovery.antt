@@ -1,17 +1,15 @@
 -- The neighbour entries and the confirm that a discovery makes from a scan's descriptors (01, "Neighbour entry"; Zigbee 3.2.2.3).
-use Prim.Native.Nat.{ℕ}
+use Prim.Native.Nat.{ℕ, _+_}
 use mathlib.Core.Bool.{Bool, true, false, cond, _||_}
 use mathlib.Core.List.{List, [], _∷_, flatMap}
-use lib.Dec.{eqb}
+use lib.Dec.{eqb, ltb}
 use lib.ListN.{length, replicate}
 use Rattle.lists.specs.Lists.{over, select}
 use Rattle.nib.specs.Identifiers.{bit}
-use Rattle.nib.specs.Neighbors.{pushed}
 use Rattle.nib.specs.declared.DeviceType.{DeviceType}
 use Rattle.nib.specs.declared.DeviceType.the-variants.{Coordinator, Router}
 use Rattle.nib.specs.declared.Neighbor.{Neighbor}
 use Rattle.nib.specs.declared.Neighbor.the-variants.{Absent, Entry}
-use Rattle.nib.specs.declared.NeighborTable.{NeighborTable}
 use Rattle.nib.specs.declared.NwkNeighbor.{NwkNeighbor}
 use Rattle.nib.specs.declared.ShortAddress.{ShortAddress}
 use Rattle.mlme.specs.Mlme.{bits}
@@ -84,10 +82,27 @@ shortAddressed ds = length (select (λ d. isShort (d .«coord_address»)) ds)
 abbrev pub beaconOf : ℕ → PanDescriptor → Bool
 beaconOf n d = eqb (d .«zigbee_beacon» .«extended_pan_id» .0) n
 
--- a table with what there is at its end; a full table stays
-abbrev pub added : NeighborTable → Neighbor → NeighborTable
-added t Absent = t
-added t (Entry e) = pushed t e
+-- What a descriptor adds to a table with so many entries in use. No public promise uses it
+
+-- the place for one entry more, the last one where the table is full
+abbrev pub slotOf : ℕ → ℕ
+slotOf count = cond (ltb count 16) count 15
+
+-- what is written there, over what stood there
+abbrev written : Neighbor → NwkNeighbor → NwkNeighbor
+written Absent old = old
+written (Entry e) old = e
+
+abbrev pub placedIn : Neighbor → ℕ → NwkNeighbor → NwkNeighbor
+placedIn found count old = cond (ltb count 16) (written found old) old
+
+-- how many entries there are then
+abbrev more : Neighbor → ℕ → ℕ
+more Absent count = count
+more (Entry e) count = count + 1
+
+abbrev pub countedIn : Neighbor → ℕ → ℕ
+countedIn found count = cond (ltb count 16) (more found count) count
 
 -- what the confirm tells of a descriptor (Zigbee Table 3-12)
 abbrev pub networkDescriptor : PanDescriptor → NetworkDescriptor

@@ -1,5 +1,5 @@
 // The neighbour table and the network descriptors that a discovery makes from a scan.
-ghost use Prim.Native.Nat.{_≤_};
+ghost use Prim.Native.Nat.{_≤_, _<_};
 ghost use mathlib.Core.Path.{_≡_};
 ghost use mathlib.Core.Bool.{cond};
 ghost use mathlib.Core.List.{map};
@@ -14,7 +14,9 @@ ghost use Rattle.discovery.specs.Discovery.{
   neighborsOf,
   shortAddressed,
   isShort,
-  added,
+  slotOf,
+  placedIn,
+  countedIn,
   networkDescriptor,
   blankDescriptor,
   confirmOf,
@@ -185,13 +187,36 @@ pub fn short_addressed(list: PanDescriptorList) -> usize
     found
 }
 
-// The table with what a descriptor gives at its end.
-fn add_neighbor(table: NeighborTable, found: Neighbor) -> NeighborTable
-    ensures { λ r. ⌜ r ≡ added table found ⌝ }
+// The place for one entry more, the last one where the table is full.
+fn slot_of(count: u8) -> u8
+    ensures { λ r. ⌜ (r ≡ slotOf count) × (r < 16) ⌝ }
 {
+    if count < 16 { count } else { 15 }
+}
+
+// What is written there: what a descriptor gives, or what stood there where it gives nothing or the table is full.
+fn placed(found: Neighbor, count: u8, old: NwkNeighbor) -> NwkNeighbor
+    ensures { λ r. ⌜ r ≡ placedIn found count old ⌝ }
+{
+    if 16 <= count {
+        return old;
+    }
     match found {
-        Neighbor::Entry(e) => table.push(e),
-        Neighbor::Absent => table,
+        Neighbor::Entry(e) => e,
+        Neighbor::Absent => old,
+    }
+}
+
+// How many entries there are then.
+fn counted(found: Neighbor, count: u8) -> u8
+    ensures { λ r. ⌜ r ≡ countedIn found count ⌝ }
+{
+    if 16 <= count {
+        return count;
+    }
+    match found {
+        Neighbor::Entry(_) => count + 1,
+        Neighbor::Absent => count,
     }
 }
 
@@ -205,7 +230,13 @@ pub fn neighbor_table_from(list: PanDescriptorList) -> NeighborTable
     while i < n {
         let at = i as usize;
         let pd = list.descriptors[at];
-        table = add_neighbor(table, neighbor_from(pd));
+        let found = neighbor_from(pd);
+        let count = table.count;
+        let slot = slot_of(count) as usize;
+        let old = table.entries[slot];
+        let e = placed(found, count, old);
+        table.entries[slot] = e;
+        table.count = counted(found, count);
         i += 1;
     }
     table

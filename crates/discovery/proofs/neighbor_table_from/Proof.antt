@@ -7,9 +7,10 @@ use borrow.Author.Needs.{needs}
 use lib.ListN.{length, take, getD, length-take}
 use Rattle.lists.proofs.Maps.{take-used}
 use Rattle.nib.specs.Neighbors.{tableOf}
+use Rattle.nib.specs.declared.NeighborTable.{NeighborTable}
 use Rattle.mlme.specs.declared.PanDescriptor.{PanDescriptor}
 use Rattle.discovery.specs.Discovery.{neighborOf, neighborsOf}
-use Rattle.discovery.proofs.Scans.{noDescriptor, neighbors-next, added-next}
+use Rattle.discovery.proofs.Scans.{noDescriptor, neighbors-next, added, added-next}
 use Rattle.discovery.proofs.neighbor_table_from.Statement.{statement}
 use Rattle.discovery.proofs.neighbor_table_from.Tie as tie
 
@@ -41,8 +42,29 @@ element-copy-out-pd c = omega arith
 neighbor-from-requires : tie.Need-neighbor-from-requires Inv-loop μ-loop
 neighbor-from-requires c κs = search needs
 
-add-neighbor-requires : tie.Need-add-neighbor-requires Inv-loop μ-loop
-add-neighbor-requires c κs = search needs
+slot-of-requires : tie.Need-slot-of-requires Inv-loop μ-loop
+slot-of-requires c κs = search needs
+
+cast-slot : tie.Need-cast-slot Inv-loop μ-loop
+cast-slot c = omega arith
+
+mul-old : tie.Need-mul-old Inv-loop μ-loop
+mul-old c = omega arith
+
+element-copy-out-old : tie.Need-element-copy-out-old Inv-loop μ-loop
+element-copy-out-old c = c .slot-of .ensures .1
+
+placed-requires : tie.Need-placed-requires Inv-loop μ-loop
+placed-requires c κs = search needs
+
+mul-e : tie.Need-mul-e Inv-loop μ-loop
+mul-e c = omega (arith, c .before .before .slot-of .ensures .1)
+
+element-set-from-e : tie.Need-element-set-from-e Inv-loop μ-loop
+element-set-from-e c = c .before .before .slot-of .ensures .1
+
+counted-requires : tie.Need-counted-requires Inv-loop μ-loop
+counted-requires c κs = search needs
 
 add-i : tie.Need-add-i Inv-loop μ-loop
 add-i c = omega arith
@@ -52,14 +74,19 @@ loop-less c = omega arith
 
 loop-again : tie.Need-loop-again Inv-loop μ-loop
 loop-again c =
-    let b = c .before .before .before .before in
+    let p = c .before in
+    let o = p .before .before in
+    let f = o .before in
+    let b = f .before .before .before in
     let s = b .before .before in
     let l = s .before .args .t1 in
     let i = b .loop .i in
+    let x = neighborOf (getD (l .descriptors) i noDescriptor) in
     let h : i < length (l .descriptors) = omega (arith, s .in-use .ensures .0, length-take (l .count) (l .descriptors)) in (
       omega arith,
-      rw (c .add-neighbor .ensures, b .loop .inv .1, c .before .neighbor-from .ensures, neighbors-next (l .descriptors) i noDescriptor h)
-          (added-next (neighborsOf (take i (l .descriptors))) (neighborOf (getD (l .descriptors) i noDescriptor))),
+      rw (c .counted .ensures, p .placed .ensures, o .slot-of .ensures .0, f .neighbor-from .ensures)
+          (ap (λ (t : NeighborTable). added t x) (b .loop .inv .1)
+          ∙ rw (neighbors-next (l .descriptors) i noDescriptor h) (added-next (neighborsOf (take i (l .descriptors))) x)),
     )
 
 returns : tie.Need-returns Inv-loop μ-loop
@@ -82,7 +109,14 @@ neighbor-table-from-spec =
     mul-pd
     element-copy-out-pd
     neighbor-from-requires
-    add-neighbor-requires
+    slot-of-requires
+    cast-slot
+    mul-old
+    element-copy-out-old
+    placed-requires
+    mul-e
+    element-set-from-e
+    counted-requires
     add-i
     loop-less
     loop-again
