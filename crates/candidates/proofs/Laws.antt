@@ -15,12 +15,12 @@ use Rattle.nib.specs.Identifiers.{linkCost}
 use Rattle.nib.specs.Neighbors.{blank, entriesOf}
 use Rattle.nib.specs.declared.NwkNeighbor.{NwkNeighbor}
 use Rattle.nib.specs.declared.NeighborTable.{NeighborTable}
+use Rattle.nib.proofs.Tables.{entries-few}
 use Rattle.candidates.specs.UpdateIds.{ofNetwork, permits, potential, newest}
 use Rattle.candidates.specs.Candidates.{matches, capacity, lowCost, current, isId, eligible, Candidate, depthAt, candidates}
 use Rattle.candidates.specs.declared.Newest.{Newest}
 use Rattle.candidates.specs.declared.Newest.the-variants.{Nothing, Id}
 use Rattle.candidates.proofs.Chosen.{in-chosen, chosen-few}
-use Rattle.candidates.proofs.Listed.{entries-few}
 
 -- `eligible` as facts
 both : (a b : Bool) → a && b ≡ true → (a ≡ true) × (b ≡ true)

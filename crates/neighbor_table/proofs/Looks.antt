@@ -4,22 +4,16 @@ use mathlib.Core.Path.{_≡_, _∙_}
 use mathlib.Core.Bool.{Bool, true, false, cond}
 use mathlib.Core.List.{List, _∷_}
 use borrow.Author.Tests.{lt-ltb}
-use native.Mathlib.Omega.{arith}
 use native.Mathlib.Numerals.{add-one}
-use lib.ListN.{length, drop, getD, length-take}
-use lib.Seq.{drop-cons, getD-take}
+use lib.ListN.{length, drop, getD}
+use lib.Seq.{drop-cons}
 use Rattle.lists.specs.Lists.{firstIndex}
 use Rattle.lists.proofs.First.{first-change}
-use Rattle.nib.specs.Neighbors.{entriesOf, entryAt, blank}
+use Rattle.nib.specs.Neighbors.{entryAt, blank}
 use Rattle.nib.specs.declared.IeeeAddress.{IeeeAddress}
 use Rattle.nib.specs.declared.NwkNeighbor.{NwkNeighbor}
-use Rattle.nib.specs.declared.NeighborTable.{NeighborTable}
 use Rattle.nib.specs.declared.Neighbor.the-variants.{Entry}
 use Rattle.neighbor_table.specs.NeighborTable.{hasAddress, isParent, withIeee, found, parentOf, learnt}
-
--- an entry in use, as the code reads it
-pub entry-read : (t : NeighborTable) (i : ℕ) → i < length (entriesOf t) → getD (entriesOf t) i blank ≡ getD (t .entries) i blank
-entry-read t i h = getD-take (t .count) (t .entries) i blank (omega (arith, length-take (t .count) (t .entries)))
 
 first-entry : (p : NwkNeighbor → Bool) (e : NwkNeighbor) (es : List NwkNeighbor) → entryAt (e ∷ es) (firstIndex p (e ∷ es)) ≡ cond (p e) (Entry e) (entryAt es (firstIndex p es))
 first-entry p e es = go (p e)

@@ -9,8 +9,8 @@ use Rattle.lists.specs.Lists.{firstIndex}
 use Rattle.lists.proofs.Lists.{length-mapped}
 use Rattle.lists.proofs.First.{first-here, first-on}
 use Rattle.nib.specs.Neighbors.{blank, entriesOf}
+use Rattle.nib.proofs.Tables.{entry-read}
 use Rattle.neighbor_table.specs.NeighborTable.{isWanted}
-use Rattle.neighbor_table.proofs.Looks.{entry-read}
 use Rattle.neighbor_table.proofs.first.Statement.{statement}
 use Rattle.neighbor_table.proofs.first.Tie as tie
 

@@ -11,9 +11,10 @@ use Rattle.nib.specs.Neighbors.{entriesOf, entryAt}
 use Rattle.nib.specs.declared.NwkNeighbor.{NwkNeighbor}
 use Rattle.nib.specs.declared.Neighbor.{Neighbor}
 use Rattle.nib.specs.declared.Neighbor.the-variants.{Entry}
+use Rattle.nib.proofs.Tables.{entry-read}
 use Rattle.neighbor_table.specs.declared.Wanted.{Wanted}
 use Rattle.neighbor_table.specs.NeighborTable.{isWanted}
-use Rattle.neighbor_table.proofs.Looks.{entry-read, look-here, look-on}
+use Rattle.neighbor_table.proofs.Looks.{look-here, look-on}
 use Rattle.neighbor_table.proofs.look_for.Statement.{statement}
 use Rattle.neighbor_table.proofs.look_for.Tie as tie
 

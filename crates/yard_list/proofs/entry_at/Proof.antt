@@ -3,7 +3,7 @@ use native.Mathlib.Omega.{arith}
 use mathlib.Core.Path.{_≡_, sym}
 use lib.ListN.{length}
 use Rattle.lists.proofs.Lists.{length-mapped}
-use Rattle.candidates.proofs.Listed.{entries-few, entry-read}
+use Rattle.nib.proofs.Tables.{entries-few, entry-read}
 use borrow.Author.Needs.{needs}
 use Rattle.yard_list.proofs.entry_at.Statement.{statement}
 use Rattle.yard_list.proofs.entry_at.Tie as tie
