@@ -171,20 +171,20 @@ pub fn join_status(status: u8) -> NlmeJoinStatus
 }
 
 // The entry being tried is the parent now.
-fn joined_nlme(now: Nlme, response: AssociationResponse, entry: NwkNeighbor) -> Nlme
-    ensures { λ r. ⌜ r ≡ withNib (withJoined (response .«association_address») (response .«device_address») entry (now .nib)) now ⌝ }
+fn joined_nlme(nlme: Nlme, response: AssociationResponse, entry: NwkNeighbor) -> Nlme
+    ensures { λ r. ⌜ r ≡ withNib (withJoined (response .«association_address») (response .«device_address») entry (nlme .nib)) nlme ⌝ }
 {
     let network_address = response.association_address;
     let ieee_address = response.device_address;
     let extended_pan_id = entry.extended_pan_id;
     let pan_id = entry.pan_id;
-    let mut nib = now.nib;
+    let mut nib = nlme.nib;
     nib.network_address = network_address;
     nib.ieee_address = ieee_address;
     nib.extended_panid = extended_pan_id;
     nib.panid = pan_id;
     nib.update_id = entry.update_id;
-    let mut out = now;
+    let mut out = nlme;
     out.nib = nib;
     out
 }

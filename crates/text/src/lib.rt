@@ -164,13 +164,13 @@ pub fn hex(f: &[u8], digits: usize) -> OptionalNumber
 }
 
 // How many bytes of a text fit at a place of a buffer.
-fn room(length: usize, at: usize, wanted: usize) -> usize
-    ensures { λ r. ⌜ r ≡ min wanted (length - at) ⌝ }
+fn room(size: usize, at: usize, wanted: usize) -> usize
+    ensures { λ r. ⌜ r ≡ min wanted (size - at) ⌝ }
 {
-    if length <= at {
+    if size <= at {
         return 0;
     }
-    let free = length - at;
+    let free = size - at;
     if wanted <= free { wanted } else { free }
 }
 
