@@ -171,8 +171,8 @@ pub fn join_status(status: u8) -> NlmeJoinStatus
 }
 
 // The entry being tried is the parent now.
-fn joined_nlme(nlme: Nlme, response: AssociationResponse, entry: NwkNeighbor) -> Nlme
-    ensures { λ r. ⌜ r ≡ withNib (withJoined (response .«association_address») (response .«device_address») entry (nlme .nib)) nlme ⌝ }
+fn joined_nlme(old: Nlme, response: AssociationResponse, entry: NwkNeighbor) -> Nlme
+    ensures { λ r. ⌜ r ≡ withNib (withJoined (response .«association_address») (response .«device_address») entry (old .nib)) old ⌝ }
 {
     let network_address = response.association_address;
     let ieee_address = response.device_address;
