@@ -178,13 +178,13 @@ fn joined_nlme(old: Nlme, response: AssociationResponse, entry: NwkNeighbor) -> 
     let ieee_address = response.device_address;
     let extended_pan_id = entry.extended_pan_id;
     let pan_id = entry.pan_id;
-    let mut nib = nlme.nib;
+    let mut nib = old.nib;
     nib.network_address = network_address;
     nib.ieee_address = ieee_address;
     nib.extended_panid = extended_pan_id;
     nib.panid = pan_id;
     nib.update_id = entry.update_id;
-    let mut out = nlme;
+    let mut out = old;
     out.nib = nib;
     out
 }
