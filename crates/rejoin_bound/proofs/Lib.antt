@@ -1,3 +1,4 @@
 pub mod Measure
 pub mod Bound
 pub mod Reached
+pub mod Polls
