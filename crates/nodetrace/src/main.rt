@@ -4,14 +4,8 @@ ghost use mathlib.Core.Path.{_≡_};
 ghost use lib.ListN.{length};
 use libc::STDIN_FILENO;
 use libc::STDOUT_FILENO;
+use trace::Run;
 use trace_calls::Session;
-
-// The session, how many lines were read, and whether all of them were of the format.
-struct Run {
-    session: Session,
-    number: u32,
-    good: bool,
-}
 
 // A run, how many bytes of a line that is not ended are kept, and whether the input is over.
 struct Fed {
@@ -20,37 +14,13 @@ struct Fed {
     over: bool,
 }
 
-// Line numbers stop at the greatest.
-fn next(number: u32) -> u32 {
-    if number == 0xffff_ffff {
-        return number;
-    }
-    number + 1
-}
-
-fn print_bad(number: u32) {
-    let mut out = [0u8; 16384];
-    let length = trace::print_bad(number, &mut out);
-    io::write_all(STDOUT_FILENO, &out[..length]);
-}
-
 // Answers a line that is ended.
 fn answer(run: Run, line: &[u8]) -> Run {
-    let number = next(run.number);
     let mut out = [0u8; 16384];
-    let answered = trace::answer_line(run.session, line, &mut out);
-    let length = answered.length;
+    let next = run.answer_line(line, &mut out);
+    let length = next.length;
     io::write_all(STDOUT_FILENO, &out[..length]);
-    let good = answered.good;
-    if !good {
-        print_bad(number);
-    }
-    let session = answered.session;
-    Run {
-        session,
-        number,
-        good,
-    }
+    next
 }
 
 // The end of the line that begins at a place: its line feed, or the end of the piece.
@@ -136,13 +106,13 @@ fn feed(before: Run, had: usize, piece: &[u8], line: &mut [u8]) -> Fed {
     }
 }
 
-// At the end of the input: a line that is not ended is bad, and so is a beacon that is missing.
+// At the end of the input: a line that is not ended is bad, and so is a beacon that is missing. The empty line, which is bad too, stands for either.
 fn finish(fed: Fed) -> Fed {
-    let run = fed.run;
+    let mut run = fed.run;
     if fed.have != 0 {
-        print_bad(next(run.number));
+        run = answer(run, b"");
     } else if run.session.missing != 0 {
-        print_bad(next(run.number));
+        run = answer(run, b"");
     }
     Fed {
         run,
@@ -170,6 +140,7 @@ fn main() {
         session,
         number: 0,
         good: true,
+        length: 0,
     };
     let mut fed = Fed {
         run,

@@ -2,31 +2,15 @@
 ghost use Prim.Native.Nat.{_≤_};
 use libc::STDIN_FILENO;
 use libc::STDOUT_FILENO;
+use trace::Run;
 use trace_calls::Session;
 
-// The session after lines, and whether all of them were of the format.
-struct Run {
-    session: Session,
-    good: bool,
-}
-
-fn print_bad(number: u32) {
+fn answer(run: Run, line: &[u8]) -> Run {
     let mut out = [0u8; 16384];
-    let length = trace::print_bad(number, &mut out);
+    let next = run.answer_line(line, &mut out);
+    let length = next.length;
     io::write_all(STDOUT_FILENO, &out[..length]);
-}
-
-fn answer(session: Session, line: &[u8]) -> Run {
-    let mut out = [0u8; 16384];
-    let answered = trace::answer_line(session, line, &mut out);
-    let length = answered.length;
-    io::write_all(STDOUT_FILENO, &out[..length]);
-    let good = answered.good;
-    let next = answered.session;
-    Run {
-        session: next,
-        good,
-    }
+    next
 }
 
 // One less, and at most 65,536: the input has no more bytes.
@@ -42,35 +26,31 @@ fn one_less(n: usize) -> usize
     n - 1
 }
 
-// Answers the lines of a case; the first is its name.
+// Answers the lines of a case; the first is its name. What is not ended at its end is bad, and so is a beacon that is missing: the empty line, which is bad too, stands for either.
 fn answer_lines(case: &[u8]) {
     let ended = one_less(text::part_count(case, b'\n'));
-    let mut session = Session::new();
+    let session = Session::new();
+    let mut run = Run {
+        session,
+        number: 0,
+        good: true,
+        length: 0,
+    };
     let mut k: usize = 1;
     while k < ended {
-        let run = answer(session, text::part(case, b'\n', k));
+        run = answer(run, text::part(case, b'\n', k));
         if !run.good {
-            print_bad(line_number(k));
             return;
         }
-        session = run.session;
         k += 1;
     }
     if text::part(case, b'\n', ended).len() != 0 {
-        print_bad(line_number(ended));
+        answer(run, b"");
         return;
     }
-    if session.missing != 0 {
-        print_bad(line_number(ended));
+    if run.session.missing != 0 {
+        answer(run, b"");
     }
-}
-
-// The number of a line, from 1 after the name.
-fn line_number(k: usize) -> u32 {
-    if k < 65536 {
-        return k as u32;
-    }
-    65536
 }
 
 fn run_case(case: &[u8]) {

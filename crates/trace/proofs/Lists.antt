@@ -6,12 +6,14 @@ use mathlib.Core.List.{List, [], _∷_, _++_, map, flatMap}
 use native.Mathlib.Nat.{le-of-suc-le-suc, not-suc-le-zero}
 use native.Mathlib.Omega.{arith}
 use lib.Dec.{eqb}
-use lib.ListN.{length, take, getD, length-append, length-map, length-take, List·getD-eq-default, List·getD-append}
-use lib.Seq.{getD-take}
+use lib.ListN.{length, take, getD, length-append, length-map, length-take, List·getD-eq-default}
+use lib.Seq.{getD-take, length-take-le}
+use Rattle.lists.specs.Lists.{over}
 use Rattle.trace_lines.specs.declared.Line.{Line}
 use Rattle.trace_lines.specs.TraceLines.{noLine, lineText}
 use Rattle.trace_lines.proofs.Texts.{line-short}
-use Rattle.trace.specs.Trace.{someText}
+use Rattle.trace.specs.declared.Run.{Run}
+use Rattle.trace.specs.Trace.{someText, printed, after}
 
 module _ {A : Type 0} where
   -- past the first of two lists
@@ -47,3 +49,11 @@ pub lines-short : (l : List Line) → length (flatMap someText l) ≤ 420 * leng
 unfolding flatMap
 lines-short [] = zero-le
 lines-short (x ∷ xs) = omega (arith, length-append (someText x) (flatMap someText xs), some-short x, lines-short xs)
+
+-- what a line prints is a prefix of the buffer after it
+pub printed-prefix : (line : List ℕ) (r r′ : Run) (o o′ : List ℕ) → r′ ≡ after line r → o′ ≡ over o (printed line r) → (r′ .length ≤ length o′) × (r′ .length ≡ length (take (r′ .length) o′))
+unfolding after
+printed-prefix line r r′ o o′ e f =
+    let n : r′ .length ≡ length (printed line r) = ap (λ (x : Run). x .length) e in
+    let h : r′ .length ≤ length o′ = omega (arith, n, simp length-append at (ap length f)) in
+    (h, sym (length-take-le (r′ .length) o′ h))

@@ -1,1 +1,4 @@
+pub mod Word
+pub mod Kind
+pub mod Lines
 pub mod Trace

@@ -1,9 +1,9 @@
--- What a line of a trace prints (compare/FORMAT.md, "Output").
-use Prim.Native.Nat.{ℕ}
-use mathlib.Core.Bool.{Bool, true, false, cond}
+-- What a line of a trace leaves and prints (compare/FORMAT.md, "Output").
+use Prim.Native.Nat.{ℕ, _+_, min}
+use mathlib.Core.Bool.{Bool, true, false, cond, not}
 use mathlib.Core.List.{List, [], _∷_, _++_, map, flatMap}
 use lib.Dec.{eqb}
-use lib.ListN.{take, replicate}
+use lib.ListN.{take, length}
 use Rattle.nib.specs.Neighbors.{entriesOf}
 use Rattle.discovery.specs.declared.NetworkDescriptor.{NetworkDescriptor}
 use Rattle.discovery.specs.declared.NlmeNetworkDiscoveryConfirm.{NlmeNetworkDiscoveryConfirm}
@@ -13,18 +13,20 @@ use Rattle.operation.specs.declared.Step.{Step}
 use Rattle.nlme.specs.declared.Nlme.{Nlme}
 use Rattle.node.specs.declared.State.{State}
 use Rattle.trace_lines.specs.declared.Line.{Line}
-use Rattle.trace_lines.specs.TraceLines.{noLine, lineOf, lineText}
+use Rattle.trace_lines.specs.TraceLines.{lineOf, lineText}
 use Rattle.trace_input.specs.TraceInput.{callOf}
-use Rattle.trace_output.specs.TraceOutput.{resetLine, noteLine, stepLine, descriptorLine, nodeLine, entryLine, failureLine, slotLines, choiceLine}
 use Rattle.trace_calls.specs.TraceCalls.{taken}
 use Rattle.trace_calls.specs.declared.Session.{Session}
 use Rattle.trace_calls.specs.declared.Said.{Said}
 use Rattle.trace_calls.specs.declared.Said.the-variants.{Nonsense, Silence, Told, Chosen, Shown}
 use Rattle.trace_calls.specs.declared.Turn.{Turn}
+use Rattle.trace.specs.Kind as kind
+use Rattle.trace.specs.Lines.{resetLine, noteLine, stepLine, descriptorLine, nodeLine, entryLine, failureLine, slotLines, choiceLine, badLine}
+use Rattle.trace.specs.declared.Run.{Run}
 
--- a line of kind 255 is no line, and prints nothing
+-- no line prints nothing
 unfoldable pub someText : Line → List ℕ
-someText l = cond (eqb (l .kind) 255) [] (lineText l)
+someText l = cond (eqb (l .kind) kind.none) [] (lineText l)
 
 -- the networks that a discovery found
 abbrev pub networksOf : NlmeNetworkDiscoveryConfirm → List NetworkDescriptor
@@ -41,19 +43,19 @@ nlmeLines n = map failureLine (pairsOf (n .«transmit_failures»)) ++ slotLines 
 abbrev pub stateLines : State → List Line
 stateLines s = nodeLine (s .control .nlme) ∷ (map entryLine (entriesOf (s .table)) ++ nlmeLines (s .control .nlme))
 
--- what a turn says
-abbrev pub linesBy : Said → Turn → List Line
-linesBy Nonsense t = []
-linesBy Silence t = []
-linesBy (Told reset note step) t = toldLines reset note step (t .networks)
-linesBy (Chosen refusal) t = choiceLine (record { refusal = refusal; list = t .list }) ∷ []
-linesBy Shown t = stateLines (t .session .state)
+-- what a turn says; n is the number of its line
+abbrev pub linesBy : Said → ℕ → Turn → List Line
+linesBy Nonsense n t = badLine n ∷ []
+linesBy Silence n t = []
+linesBy (Told reset note step) n t = toldLines reset note step (t .networks)
+linesBy (Chosen refusal) n t = choiceLine refusal (t .list) ∷ []
+linesBy Shown n t = stateLines (t .session .state)
 
-abbrev pub saidLines : Turn → List Line
-saidLines t = linesBy (t .said) t
+abbrev pub saidLines : ℕ → Turn → List Line
+saidLines n t = linesBy (t .said) n t
 
-unfoldable pub textOf : Turn → List ℕ
-textOf t = flatMap someText (saidLines t)
+unfoldable pub textOf : ℕ → Turn → List ℕ
+textOf n t = flatMap someText (saidLines n t)
 
 -- the line is not of the format
 abbrev pub isNonsense : Said → Bool
@@ -64,9 +66,22 @@ isNonsense (Chosen refusal) = false
 isNonsense Shown = false
 
 -- the call that a line says, made on the session
-abbrev pub turnOf : List ℕ → Session → Turn
+unfoldable pub turnOf : List ℕ → Session → Turn
 turnOf line s = taken (callOf (lineOf line)) s
 
--- `bad`, and the number of a line that is not of the format: letters `wb`, word 47
-abbrev pub badLine : ℕ → Line
-badLine n = record { kind = 3; count = 2; dash = false; numbers = 47 ∷ n ∷ replicate 18 0 }
+-- lines are counted from 1, up to the greatest number of 32 bits
+abbrev pub numberAfter : ℕ → ℕ
+numberAfter n = min (n + 1) 4294967295
+
+-- one line more: what it prints, and the run after it
+unfoldable pub printed : List ℕ → Run → List ℕ
+printed line r = textOf (numberAfter (r .number)) (turnOf line (r .session))
+
+unfoldable pub after : List ℕ → Run → Run
+after line r =
+    record {
+      session = turnOf line (r .session) .session;
+      number = numberAfter (r .number);
+      good = not (isNonsense (turnOf line (r .session) .said));
+      length = length (printed line r);
+    }

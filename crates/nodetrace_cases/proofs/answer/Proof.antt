@@ -1,9 +1,5 @@
 -- `answer` meets its contract. Assumes nothing.
-use native.Mathlib.Omega.{arith}
-use Prim.Native.Nat.{_≤_}
-use mathlib.Core.Path.{sym, ap}
-use lib.ListN.{length, length-append}
-use lib.Seq.{length-take-le}
+use Rattle.trace.proofs.Lists.{printed-prefix}
 use borrow.Author.Needs.{needs}
 use Rattle.nodetrace_cases.proofs.answer.Statement.{statement}
 use Rattle.nodetrace_cases.proofs.answer.Tie as tie
@@ -12,12 +8,10 @@ answer-line-requires : tie.Need-answer-line-requires
 answer-line-requires c κs = search needs
 
 array-share-prefix-out : tie.Need-array-share-prefix-out
-array-share-prefix-out c = let y = c .answer-line in omega (arith, y .ensures .2, simp length-append at (ap length (y .ensures .3)))
+array-share-prefix-out c = let y = c .answer-line in printed-prefix _ _ _ _ _ (y .ensures .0) (y .ensures .1) .0
 
 slice-aggregate-write-all : tie.Need-slice-aggregate-write-all
-slice-aggregate-write-all c = let y = c .before .answer-line in
-    let h : y .result .length ≤ length (y .last .1 .1 .0) = omega (arith, y .ensures .2, simp length-append at (ap length (y .ensures .3))) in
-    sym (length-take-le (y .result .length) (y .last .1 .1 .0) h)
+slice-aggregate-write-all c = let y = c .before .answer-line in printed-prefix _ _ _ _ _ (y .ensures .0) (y .ensures .1) .1
 
 write-all-requires : tie.Need-write-all-requires
 write-all-requires c κs = search needs

@@ -1,15 +1,15 @@
 -- `answer_lines` meets its contract. Assumes nothing.
 use native.Mathlib.Omega.{arith}
-use borrow.Author.Needs.{needs}
 use Prim.Native.Nat.{_-_}
+use borrow.Author.Needs.{needs}
 use Rattle.nodetrace_cases.proofs.answer_lines.Statement.{statement}
 use Rattle.nodetrace_cases.proofs.answer_lines.Tie as tie
 
 abbrev Inv-loop : tie.InvT-loop
-Inv-loop case ended session₀ k₀ session k = Unit {0}
+Inv-loop case ended run₀ k₀ t6 t7 run k = Unit {0}
 
 abbrev μ-loop : tie.MeasureT-loop
-μ-loop case ended session₀ k₀ session k = ended - k
+μ-loop case ended run₀ k₀ t6 t7 run k = ended - k
 
 part-count-requires : tie.Need-part-count-requires Inv-loop μ-loop
 part-count-requires c κs = search needs
@@ -29,20 +29,14 @@ part-requires c κs = search needs
 answer-requires : tie.Need-answer-requires Inv-loop μ-loop
 answer-requires c κs = search needs
 
-line-number-requires : tie.Need-line-number-requires Inv-loop μ-loop
-line-number-requires c κs = search needs
-
-print-bad-requires : tie.Need-print-bad-requires Inv-loop μ-loop
-print-bad-requires c κs = search needs
-
 returns : tie.Need-returns Inv-loop μ-loop
 returns c = search needs
 
 add-k : tie.Need-add-k Inv-loop μ-loop
-add-k c = omega (arith, c .before .before .before .before .before .loop-test .taken, c .before .before .before .before .before .before .before .before .one-less .ensures)
+add-k c = omega (arith, c .before .before .before .before .loop-test .taken, c .before .before .before .before .before .before .before .one-less .ensures)
 
 loop-less : tie.Need-loop-less Inv-loop μ-loop
-loop-less c = omega (arith, c .before .before .before .before .before .loop-test .taken)
+loop-less c = omega (arith, c .before .before .before .before .loop-test .taken)
 
 loop-again : tie.Need-loop-again Inv-loop μ-loop
 loop-again c = tt
@@ -50,20 +44,20 @@ loop-again c = tt
 part-requires-2 : tie.Need-part-requires-2 Inv-loop μ-loop
 part-requires-2 c κs = search needs
 
-line-number-requires-2 : tie.Need-line-number-requires-2 Inv-loop μ-loop
-line-number-requires-2 c κs = search needs
+slice-aggregate-answer : tie.Need-slice-aggregate-answer Inv-loop μ-loop
+slice-aggregate-answer c = search needs
 
-print-bad-requires-2 : tie.Need-print-bad-requires-2 Inv-loop μ-loop
-print-bad-requires-2 c κs = search needs
+answer-requires-2 : tie.Need-answer-requires-2 Inv-loop μ-loop
+answer-requires-2 c κs = search needs
 
 returns-2 : tie.Need-returns-2 Inv-loop μ-loop
 returns-2 c = search needs
 
-line-number-requires-3 : tie.Need-line-number-requires-3 Inv-loop μ-loop
-line-number-requires-3 c κs = search needs
+slice-aggregate-answer-2 : tie.Need-slice-aggregate-answer-2 Inv-loop μ-loop
+slice-aggregate-answer-2 c = search needs
 
-print-bad-requires-3 : tie.Need-print-bad-requires-3 Inv-loop μ-loop
-print-bad-requires-3 c κs = search needs
+answer-requires-3 : tie.Need-answer-requires-3 Inv-loop μ-loop
+answer-requires-3 c κs = search needs
 
 returns-3 : tie.Need-returns-3 Inv-loop μ-loop
 returns-3 c = search needs
@@ -83,17 +77,15 @@ answer-lines-spec =
     loop-holds
     part-requires
     answer-requires
-    line-number-requires
-    print-bad-requires
     returns
     add-k
     loop-less
     loop-again
     part-requires-2
-    line-number-requires-2
-    print-bad-requires-2
+    slice-aggregate-answer
+    answer-requires-2
     returns-2
-    line-number-requires-3
-    print-bad-requires-3
+    slice-aggregate-answer-2
+    answer-requires-3
     returns-3
     returns-4)

@@ -6,7 +6,7 @@ use native.Mathlib.Omega.{arith}
 use Rattle.lists.proofs.Lists.{length-mapped}
 use Rattle.nib.specs.Neighbors.{entriesOf}
 use Rattle.supervision.specs.Failures.{pairsOf}
-use Rattle.trace_output.specs.TraceOutput.{entryLine, failureLine, slotLines}
+use Rattle.trace.specs.Lines.{entryLine, failureLine, slotLines}
 use Rattle.trace.specs.Trace.{nlmeLines}
 use borrow.Author.Needs.{needs}
 use Rattle.trace.proofs.state_count.Statement.{statement}

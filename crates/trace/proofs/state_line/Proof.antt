@@ -1,13 +1,13 @@
 -- `state_line` meets its contract. Assumes nothing.
 use mathlib.Core.Path.{_≡_, sym, ap, _∙_}
-use mathlib.Core.List.{map, _∷_, [], _++_}
 use Prim.Native.Nat.{ℕ, _-_}
-use lib.ListN.{length, getD, length-map, List·getD-append}
 use native.Mathlib.Omega.{arith}
+use mathlib.Core.List.{map, _∷_, [], _++_}
+use lib.ListN.{length, getD, length-map, length-append, List·getD-append}
 use Rattle.nib.specs.Neighbors.{entriesOf}
-use Rattle.trace_output.specs.TraceOutput.{nodeLine, entryLine}
 use Rattle.trace_lines.specs.TraceLines.{noLine}
-use Rattle.trace.specs.Trace.{nlmeLines, stateLines}
+use Rattle.trace.specs.Lines.{nodeLine, entryLine}
+use Rattle.trace.specs.Trace.{nlmeLines}
 use Rattle.trace.proofs.Lists.{getD-right}
 use borrow.Author.Needs.{needs}
 use Rattle.trace.proofs.state_line.Statement.{statement}
@@ -17,8 +17,7 @@ node-line-requires : tie.Need-node-line-requires
 node-line-requires c κs = search needs
 
 returns : tie.Need-returns
-returns c = let a = c .before .before .args in
-    c .node-line .ensures ∙ ap (λ (k : ℕ). getD (stateLines (a .state)) k noLine) (sym (c .before .if1 .taken))
+returns c = rw (c .before .if1 .taken) (c .node-line .ensures)
 
 sub-a : tie.Need-sub-a
 sub-a c = search needs
@@ -26,19 +25,21 @@ sub-a c = search needs
 len-requires : tie.Need-len-requires
 len-requires c κs = search needs
 
-entry-line-requires : tie.Need-entry-line-requires
-entry-line-requires c κs = search needs
+table-line-requires : tie.Need-table-line-requires
+table-line-requires c κs = search needs
 
 returns-2 : tie.Need-returns-2
 returns-2 c = let a = c .before .before .before .before .args in
     let es = entriesOf (a .state .table) in
     let n = a .state .control .nlme in
-    c .entry-line .ensures
+    c .table-line .ensures
     ∙ sym (List·getD-append (map entryLine es) (nlmeLines n) noLine (a .i - 1) (omega (arith, c .before .before .len .ensures, length-map es entryLine)))
     ∙ sym (getD-right (nodeLine n ∷ []) (map entryLine es ++ nlmeLines n) (a .i) noLine (omega (arith, c .before .before .before .if1 .left)))
 
 nlme-line-requires : tie.Need-nlme-line-requires
-nlme-line-requires c κs = search needs
+nlme-line-requires c κs = let s = c .before .before .before in
+    let es = entriesOf (s .args .state .table) in
+    omega (arith, s .pre, c .if2 .left, c .before .len .ensures, c .before .before .if1 .left, length-map es entryLine, length-append (map entryLine es) (nlmeLines (s .args .state .control .nlme)))
 
 returns-3 : tie.Need-returns-3
 returns-3 c = let a = c .before .before .before .before .args in
@@ -58,7 +59,7 @@ state-line-spec =
     returns
     sub-a
     len-requires
-    entry-line-requires
+    table-line-requires
     returns-2
     nlme-line-requires
     returns-3)

@@ -1,12 +1,6 @@
 -- `write_some` meets its contract. Assumes nothing.
-use mathlib.Core.Path.{_≡_, refl, sym, ap, _∙_}
-use mathlib.Core.List.{List, []}
-use Prim.Native.Nat.{ℕ}
-use lib.ListN.{length}
-use lib.Seq.{sets}
-use native.Mathlib.Omega.{arith}
+use mathlib.Core.Path.{refl}
 use borrow.Author.Tests.{eq-eqb, ne-eqb}
-use Rattle.trace_lines.specs.TraceLines.{lineText}
 use Rattle.trace.specs.Trace.{someText}
 use borrow.Author.Needs.{needs}
 use Rattle.trace.proofs.write_some.Statement.{statement}

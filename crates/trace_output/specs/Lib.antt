@@ -1,3 +1,0 @@
-pub mod Word
-pub mod Kind
-pub mod TraceOutput
