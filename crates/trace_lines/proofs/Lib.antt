@@ -3,3 +3,4 @@ pub mod Places
 pub mod Texts
 pub mod Lines
 pub mod Tables
+pub mod Long
