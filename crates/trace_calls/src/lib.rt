@@ -7,7 +7,7 @@ ghost use Rattle.candidates.specs.Candidates.{listOf};
 ghost use Rattle.supervision.specs.Failures.{failuresOf, pushed};
 ghost use Rattle.discovery.specs.Discovery.{confirmOf};
 ghost use Rattle.node.specs.Refusals.{refuse};
-ghost use Rattle.trace_calls.specs.TraceCalls.{noNode, noSignals, ownPart, idle, begun, withPairs, unheard, withBeacon, before, withState, scenario, running, awaiting, saying, nonsense, silent, told, heard, scanEnded, scanTaken, beaconTaken, entryTaken, pairTaken, chosen, shown, made, answer, kindOf, settingUp, hasNode, isBeacon, fitsStage, fits, taken};
+ghost use Rattle.trace_calls.specs.TraceCalls.{noNode, noSignals, ownPart, idle, begun, withPairs, unheard, withBeacon, before, scenario, running, awaiting, saying, nonsense, silent, told, withNetworks, scanEnded, scanTaken, beaconTaken, entryTaken, pairTaken, chosen, shown, made, answer, kindOf, settingUp, hasNode, isBeacon, fitsStage, fits, taken};
 use candidates::CandidateList;
 use discovery::NlmeNetworkDiscoveryConfirm;
 use management::LeaveIndicationSlot;
@@ -32,7 +32,6 @@ use nib::PanId;
 use nib::ShortAddress;
 use nlme::Nlme;
 use node::Answer;
-use node::ScanAnswer;
 use node::ScanOutcome;
 use node::State;
 use operation::Control;
@@ -293,20 +292,20 @@ fn answer(state: State, call: Call) -> Answer
     ensures { λ r. ⌜ r ≡ answer call state ⌝ }
 {
     match call {
-        Call::Discovery(range) => state.start_discovery(range),
-        Call::Join(request) => state.join(request),
-        Call::Send(destination, secure) => state.send_data(destination, secure),
-        Call::Poll => state.poll(),
-        Call::Receive => state.receive(),
-        Call::Negotiate => state.negotiate_end_device_timeout(),
-        Call::Keepalive => state.send_timeout_request_keepalive(),
-        Call::Association(outcome) => state.association_over(outcome),
-        Call::Transmission(sent) => state.transmission_over(sent),
-        Call::Reception(outcome) => state.reception_over(outcome),
-        Call::Tick(ms) => state.tick_parent_timeout(ms),
-        Call::TakeLeave => state.take_leave_indication(),
-        Call::TakeStatus => state.take_nwk_status_indication(),
-        _ => no_answer(state),
+        Call::Discovery(range) => return state.start_discovery(range),
+        Call::Join(request) => return state.join(request),
+        Call::Send(destination, secure) => return state.send_data(destination, secure),
+        Call::Poll => return state.poll(),
+        Call::Receive => return state.receive(),
+        Call::Negotiate => return state.negotiate_end_device_timeout(),
+        Call::Keepalive => return state.send_timeout_request_keepalive(),
+        Call::Association(outcome) => return state.association_over(outcome),
+        Call::Transmission(sent) => return state.transmission_over(sent),
+        Call::Reception(outcome) => return state.reception_over(outcome),
+        Call::Tick(ms) => return state.tick_parent_timeout(ms),
+        Call::TakeLeave => return state.take_leave_indication(),
+        Call::TakeStatus => return state.take_nwk_status_indication(),
+        _ => return no_answer(state),
     }
 }
 
@@ -321,27 +320,6 @@ impl Session {
         Session {
             state,
             stage: Stage::NoNode,
-            missing: 0,
-            scan,
-        }
-    }
-
-    fn with_state(self, state: State) -> Session
-        ensures { λ r. ⌜ r ≡ withState state self ⌝ }
-    {
-        let mut out = self;
-        out.state = state;
-        out
-    }
-
-    fn scenario(self, node: NodeFields) -> Session
-        ensures { λ r. ⌜ r ≡ scenario node self ⌝ }
-    {
-        let state = begun(node);
-        let scan = self.scan;
-        Session {
-            state,
-            stage: Stage::SettingUp,
             missing: 0,
             scan,
         }
@@ -396,40 +374,29 @@ impl Session {
         self.saying(Said::Silence)
     }
 
-    // A call's answer, and the state that it leaves.
-    fn told(self, answer: Answer) -> Turn
-        ensures { λ r. ⌜ r ≡ told answer self ⌝ }
+    // A call's answer with the networks that it tells of, and the state that it leaves.
+    fn told(self, answer: Answer, networks: NlmeNetworkDiscoveryConfirm) -> Turn
+        ensures { λ r. ⌜ r ≡ withNetworks networks (told answer self) ⌝ }
     {
-        let reset = answer.reset;
         let note = answer.note;
         let step = answer.step;
-        let next = self.running(answer.state);
-        next.saying(Said::Told(reset, note, step))
-    }
-
-    fn heard(self, scanned: ScanAnswer) -> Turn
-        ensures { λ r. ⌜ r ≡ heard scanned self ⌝ }
-    {
-        let networks = scanned.confirm;
-        let mut out = self.told(scanned.answer);
-        out.networks = networks;
-        out
+        let session = self.running(answer.state);
+        let list = no_candidates();
+        Turn {
+            session,
+            said: Said::Told(answer.reset, note, step),
+            networks,
+            list,
+        }
     }
 
     // The outcome of a scan: a list of beacons, or a failure.
     fn scan_ended(self, failed: bool, list: PanDescriptorList) -> Turn
         ensures { λ r. ⌜ r ≡ scanEnded failed list self ⌝ }
     {
-        let state = self.state;
         let outcome = ScanOutcome { failed, list };
-        self.heard(state.scan_over(outcome))
-    }
-
-    fn scan_failed(self) -> Turn
-        ensures { λ r. ⌜ r ≡ scanEnded true (unheard 0) self ⌝ }
-    {
-        let none = unheard(0);
-        self.scan_ended(true, none)
+        let scanned = self.state.scan_over(outcome);
+        self.told(scanned.answer, scanned.confirm)
     }
 
     fn beacon(self, d: PanDescriptor) -> Turn
@@ -458,53 +425,61 @@ impl Session {
     fn node(self, node: NodeFields) -> Turn
         ensures { λ r. ⌜ r ≡ silent (scenario node self) ⌝ }
     {
-        let next = self.scenario(node);
+        let state = begun(node);
+        let scan = self.scan;
+        let next = Session {
+            state,
+            stage: Stage::SettingUp,
+            missing: 0,
+            scan,
+        };
         next.silent()
     }
 
     fn entry(self, e: NwkNeighbor) -> Turn
         ensures { λ r. ⌜ r ≡ entryTaken e self ⌝ }
     {
-        let mut state = self.state;
-        let table = state.table;
-        if 16 <= table.count {
+        if 16 <= self.state.table.count {
             return self.nonsense();
         }
-        state.table = table.push(e);
-        let next = self.with_state(state);
+        let mut state = self.state;
+        state.table = self.state.table.push(e);
+        let mut next = self;
+        next.state = state;
         next.silent()
     }
 
     fn failure(self, p: TransmitFailure) -> Turn
         ensures { λ r. ⌜ r ≡ pairTaken p self ⌝ }
     {
-        let state = self.state;
-        let failures = state.control.nlme.transmit_failures;
-        if 16 <= failures.count {
+        if 16 <= self.state.control.nlme.transmit_failures.count {
             return self.nonsense();
         }
-        let more = with_pair(failures, p);
-        let next = self.with_state(with_failures(state, more));
+        let failures = with_pair(self.state.control.nlme.transmit_failures, p);
+        let mut next = self;
+        next.state = with_failures(self.state, failures);
         next.silent()
     }
 
     fn chosen(self, network: ExtendedPanId, router: bool, permit: bool) -> Turn
         ensures { λ r. ⌜ r ≡ chosen (network .0) router permit self ⌝ }
     {
-        let state = self.state;
-        let choice = state.select_candidates(network, router, permit);
-        let next = self.running(state);
+        let choice = self.state.select_candidates(network, router, permit);
+        let session = self.running(self.state);
+        let networks = no_networks();
         let list = choice.list;
-        let mut out = next.saying(Said::Chosen(choice.refusal));
-        out.list = list;
-        out
+        Turn {
+            session,
+            said: Said::Chosen(choice.refusal),
+            networks,
+            list,
+        }
     }
 
     fn answered(self, call: Call) -> Turn
         ensures { λ r. ⌜ r ≡ told (answer call (self .state)) self ⌝ }
     {
-        let answer = answer(self.state, call);
-        self.told(answer)
+        self.told(answer(self.state, call), no_networks())
     }
 
     fn shown(self) -> Turn
@@ -519,16 +494,16 @@ impl Session {
         ensures { λ r. ⌜ r ≡ made call self ⌝ }
     {
         match call {
-            Call::Nonsense => self.nonsense(),
-            Call::Node(node) => self.node(node),
-            Call::Entry(e) => self.entry(e),
-            Call::Failure(p) => self.failure(p),
-            Call::Scan(n) => self.scan(n),
-            Call::Beacon(d) => self.beacon(d),
-            Call::ScanFailed => self.scan_failed(),
-            Call::Choose(network, router, permit) => self.chosen(network, router, permit),
-            Call::PrintState => self.shown(),
-            _ => self.answered(call),
+            Call::Nonsense => return self.nonsense(),
+            Call::Node(node) => return self.node(node),
+            Call::Entry(e) => return self.entry(e),
+            Call::Failure(p) => return self.failure(p),
+            Call::Scan(n) => return self.scan(n),
+            Call::Beacon(d) => return self.beacon(d),
+            Call::ScanFailed => return self.scan_ended(true, unheard(0)),
+            Call::Choose(network, router, permit) => return self.chosen(network, router, permit),
+            Call::PrintState => return self.shown(),
+            _ => return self.answered(call),
         }
     }
 }
@@ -548,12 +523,12 @@ fn kind_of(call: Call) -> Kind
     ensures { λ r. ⌜ r ≡ kindOf call ⌝ }
 {
     match call {
-        Call::Nonsense => Kind::NoLine,
-        Call::Node(_) => Kind::NodeLine,
-        Call::Entry(_) => Kind::StateLine,
-        Call::Failure(_) => Kind::StateLine,
-        Call::Beacon(_) => Kind::BeaconLine,
-        _ => Kind::CallLine,
+        Call::Nonsense => return Kind::NoLine,
+        Call::Node(_) => return Kind::NodeLine,
+        Call::Entry(_) => return Kind::StateLine,
+        Call::Failure(_) => return Kind::StateLine,
+        Call::Beacon(_) => return Kind::BeaconLine,
+        _ => return Kind::CallLine,
     }
 }
 
@@ -561,9 +536,9 @@ fn setting_up(stage: Stage) -> bool
     ensures { λ r. ⌜ r ≡ settingUp stage ⌝ }
 {
     match stage {
-        Stage::NoNode => false,
-        Stage::SettingUp => true,
-        Stage::Running => false,
+        Stage::NoNode => return false,
+        Stage::SettingUp => return true,
+        Stage::Running => return false,
     }
 }
 
@@ -571,9 +546,9 @@ fn has_node(stage: Stage) -> bool
     ensures { λ r. ⌜ r ≡ hasNode stage ⌝ }
 {
     match stage {
-        Stage::NoNode => false,
-        Stage::SettingUp => true,
-        Stage::Running => true,
+        Stage::NoNode => return false,
+        Stage::SettingUp => return true,
+        Stage::Running => return true,
     }
 }
 
@@ -581,11 +556,11 @@ fn is_beacon(kind: Kind) -> bool
     ensures { λ r. ⌜ r ≡ isBeacon kind ⌝ }
 {
     match kind {
-        Kind::NoLine => false,
-        Kind::NodeLine => false,
-        Kind::StateLine => false,
-        Kind::BeaconLine => true,
-        Kind::CallLine => false,
+        Kind::NoLine => return false,
+        Kind::NodeLine => return false,
+        Kind::StateLine => return false,
+        Kind::BeaconLine => return true,
+        Kind::CallLine => return false,
     }
 }
 
@@ -594,11 +569,11 @@ fn fits_stage(kind: Kind, stage: Stage) -> bool
     ensures { λ r. ⌜ r ≡ fitsStage kind stage ⌝ }
 {
     match kind {
-        Kind::NoLine => false,
-        Kind::NodeLine => true,
-        Kind::StateLine => setting_up(stage),
-        Kind::BeaconLine => false,
-        Kind::CallLine => has_node(stage),
+        Kind::NoLine => return false,
+        Kind::NodeLine => return true,
+        Kind::StateLine => return setting_up(stage),
+        Kind::BeaconLine => return false,
+        Kind::CallLine => return has_node(stage),
     }
 }
 

@@ -7,29 +7,29 @@ use Rattle.trace_calls.proofs.kind_of.Tie as tie
 enum-told : tie.Need-enum-told
 enum-told c = search needs
 
-enum-told-2 : tie.Need-enum-told-2
-enum-told-2 c = search needs
-
-enum-told-3 : tie.Need-enum-told-3
-enum-told-3 c = search needs
-
-enum-told-4 : tie.Need-enum-told-4
-enum-told-4 c = search needs
-
-enum-told-5 : tie.Need-enum-told-5
-enum-told-5 c = search needs
-
 returns : tie.Need-returns
 returns c = rw (c .enum-told .given .1)
+
+enum-told-2 : tie.Need-enum-told-2
+enum-told-2 c = search needs
 
 returns-2 : tie.Need-returns-2
 returns-2 c = rw (c .enum-told2 .given .1)
 
+enum-told-3 : tie.Need-enum-told-3
+enum-told-3 c = search needs
+
 returns-3 : tie.Need-returns-3
 returns-3 c = rw (c .enum-told3 .given .1)
 
+enum-told-4 : tie.Need-enum-told-4
+enum-told-4 c = search needs
+
 returns-4 : tie.Need-returns-4
 returns-4 c = rw (c .enum-told4 .given .1)
+
+enum-told-5 : tie.Need-enum-told-5
+enum-told-5 c = search needs
 
 returns-5 : tie.Need-returns-5
 returns-5 c = rw (c .enum-told5 .given .1)
@@ -39,4 +39,16 @@ returns-6 c = kind-other (c .before .args .call) (c .match .keys6)
 
 pub kind-of-spec : {M : Type 1} → statement M
 kind-of-spec =
-    tie.close (tie.spec enum-told enum-told-2 enum-told-3 enum-told-4 enum-told-5 returns returns-2 returns-3 returns-4 returns-5 returns-6)
+    tie.close
+    (tie.spec
+    enum-told
+    returns
+    enum-told-2
+    returns-2
+    enum-told-3
+    returns-3
+    enum-told-4
+    returns-4
+    enum-told-5
+    returns-5
+    returns-6)

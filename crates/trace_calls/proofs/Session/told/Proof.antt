@@ -1,4 +1,4 @@
--- `Session::told` meets its contract. Assumes nothing.
+-- `told` meets its contract. Assumes nothing.
 use Rattle.trace_calls.specs.TraceCalls.{told}
 use borrow.Author.Needs.{needs}
 use Rattle.trace_calls.proofs.Session.told.Statement.{statement}
@@ -7,13 +7,12 @@ use Rattle.trace_calls.proofs.Session.told.Tie as tie
 running-requires : tie.Need-running-requires
 running-requires c κs = search needs
 
-saying-requires : tie.Need-saying-requires
-saying-requires c κs = search needs
+no-candidates-requires : tie.Need-no-candidates-requires
+no-candidates-requires c κs = search needs
 
 returns : tie.Need-returns
 unfolding told
-returns c = rw (c .saying .ensures, c .before .running .ensures)
+returns c = rw (c .no-candidates .ensures, c .before .running .ensures)
 
 pub told-spec : {M : Type 1} → statement M
-told-spec =
-    tie.close (tie.spec running-requires saying-requires returns)
+told-spec = tie.close (tie.spec running-requires no-candidates-requires returns)
