@@ -4,7 +4,6 @@ use Prim.Native.String.{String}
 use mathlib.Core.Path.{_≡_, refl}
 use mathlib.Core.Bool.{Bool, true}
 use mathlib.Core.List.{List, [], _∷_}
-
 use lib.ListN.{getD}
 use Rattle.lists.specs.Lists.{every}
 use Rattle.text.specs.Text.{bytes, sameText}
