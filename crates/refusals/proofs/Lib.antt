@@ -1,0 +1,2 @@
+pub mod Decisions
+pub mod Refusals
