@@ -1,16 +1,22 @@
 -- The operation under way with some fields replaced, and the common forms of a decision (01, "What must change shape": "Awaited radio calls become a request and a
 -- later outcome").
-use Prim.Native.Nat.{ℕ}
+use Prim.Native.Nat.{ℕ, _-_}
 use mathlib.Core.Bool.{Bool, true, false}
+use lib.Dec.{eqb}
+use Rattle.nib.specs.declared.NwkNeighbor.{NwkNeighbor}
 use Rattle.nlme.specs.declared.Nlme.{Nlme}
+use Rattle.operation.specs.declared.Purpose.{Purpose}
 use Rattle.operation.specs.declared.Phase.{Phase}
 use Rattle.operation.specs.declared.Phase.the-variants.{Idle, Discovery, RejoinScan, Association, RejoinSend, DataSend, TimeoutSend, LeaveSend, Reception}
 use Rattle.operation.specs.declared.Operation.{Operation}
 use Rattle.operation.specs.declared.Control.{Control}
 use Rattle.operation.specs.declared.RadioRequest.{RadioRequest}
+use Rattle.operation.specs.declared.RadioRequest.the-variants.{Poll}
+use Rattle.operation.specs.declared.Note.{Note}
 use Rattle.operation.specs.declared.Note.the-variants.{NoNote}
 use Rattle.operation.specs.declared.Step.{Step}
-use Rattle.operation.specs.declared.Step.the-variants.{Ask}
+use Rattle.operation.specs.declared.Step.the-variants.{Refused, Ask, Discovered, DiscoveryFailed, Joined, Sent, Polled, NegotiationOver, KeepaliveOver, Expired, LeaveTaken, StatusTaken}
+use Rattle.operation.specs.declared.Move.{Move}
 use Rattle.operation.specs.declared.Move.the-variants.{Stay}
 use Rattle.operation.specs.declared.Decision.{Decision}
 
@@ -76,29 +82,25 @@ scanAsked o =
 abbrev pub inPhase : Phase → Control → Control
 inPhase p c = withOperation (awaiting p (c .operation)) c
 
--- a request to the radio, whose outcome is awaited
-abbrev pub asking : Phase → RadioRequest → Control → Decision
-asking p r c =
+-- a decision that uses up no poll and leaves the candidate being tried a potential parent
+abbrev pub decided : Move → Note → Step → Control → Decision
+decided m n s c =
     record {
-      control = inPhase p c;
+      control = c;
       «clear_potential_parent» = false;
-      candidate = Stay;
-      note = NoNote;
-      step = Ask r;
-      «polls_used» = 0;
-    }
-
--- the operation is over, with its answer
-abbrev pub ending : Step → Control → Decision
-ending s c =
-    record {
-      control = inPhase Idle c;
-      «clear_potential_parent» = false;
-      candidate = Stay;
-      note = NoNote;
+      candidate = m;
+      note = n;
       step = s;
       «polls_used» = 0;
     }
+
+-- a request to the radio, whose outcome is awaited
+abbrev pub asking : Phase → RadioRequest → Control → Decision
+asking p r c = decided Stay NoNote (Ask r) (inPhase p c)
+
+-- the operation is over, with its answer
+abbrev pub ending : Step → Control → Decision
+ending s c = decided Stay NoNote s (inPhase Idle c)
 
 -- a decision whose step used up polls
 abbrev pub afterPolls : ℕ → Decision → Decision
@@ -112,47 +114,53 @@ afterPolls k d =
       «polls_used» = k;
     }
 
--- no operation is under way, and which kind of outcome is awaited (01, "When a call is turned down")
+-- a poll of the parent, for a purpose (Zigbee 3.6.6)
+abbrev pub polled : Purpose → NwkNeighbor → Control → Decision
+polled u p c = asking (Reception u) (Poll (c .nlme .nib .panid) (p .«network_address»)) c
+
+-- one of the polls that are left
+abbrev pub pollCounted : Purpose → NwkNeighbor → Control → Decision
+pollCounted u p c = afterPolls 1 (polled u p (withOperation (withPolls (c .operation .«polls_left» - 1) (c .operation)) c))
+
+-- the kind of outcome that is awaited (01, "When a call is turned down"): 0 none, and no operation is under way; 1 a scan's, 2 an association's,
+-- 3 a transmission's, 4 a poll's or a receive's
+abbrev pub awaited : Phase → ℕ
+awaited Idle = 0
+awaited Discovery = 1
+awaited RejoinScan = 1
+awaited Association = 2
+awaited RejoinSend = 3
+awaited DataSend = 3
+awaited (TimeoutSend k) = 3
+awaited (LeaveSend p r) = 3
+awaited (Reception p) = 4
+
 abbrev pub isIdle : Phase → Bool
-isIdle Idle = true
-isIdle Discovery = false
-isIdle RejoinScan = false
-isIdle Association = false
-isIdle RejoinSend = false
-isIdle DataSend = false
-isIdle (TimeoutSend k) = false
-isIdle (LeaveSend p r) = false
-isIdle (Reception p) = false
+isIdle p = eqb (awaited p) 0
 
 abbrev pub awaitsScan : Phase → Bool
-awaitsScan Idle = false
-awaitsScan Discovery = true
-awaitsScan RejoinScan = true
-awaitsScan Association = false
-awaitsScan RejoinSend = false
-awaitsScan DataSend = false
-awaitsScan (TimeoutSend k) = false
-awaitsScan (LeaveSend p r) = false
-awaitsScan (Reception p) = false
+awaitsScan p = eqb (awaited p) 1
 
 abbrev pub awaitsAssociation : Phase → Bool
-awaitsAssociation Idle = false
-awaitsAssociation Discovery = false
-awaitsAssociation RejoinScan = false
-awaitsAssociation Association = true
-awaitsAssociation RejoinSend = false
-awaitsAssociation DataSend = false
-awaitsAssociation (TimeoutSend k) = false
-awaitsAssociation (LeaveSend p r) = false
-awaitsAssociation (Reception p) = false
+awaitsAssociation p = eqb (awaited p) 2
+
+abbrev pub awaitsTransmission : Phase → Bool
+awaitsTransmission p = eqb (awaited p) 3
 
 abbrev pub awaitsReception : Phase → Bool
-awaitsReception Idle = false
-awaitsReception Discovery = false
-awaitsReception RejoinScan = false
-awaitsReception Association = false
-awaitsReception RejoinSend = false
-awaitsReception DataSend = false
-awaitsReception (TimeoutSend k) = false
-awaitsReception (LeaveSend p r) = false
-awaitsReception (Reception p) = true
+awaitsReception p = eqb (awaited p) 4
+
+-- a call was turned down
+abbrev pub isRefused : Step → Bool
+isRefused (Refused k) = true
+isRefused (Ask r) = false
+isRefused Discovered = false
+isRefused DiscoveryFailed = false
+isRefused (Joined c) = false
+isRefused (Sent a) = false
+isRefused (Polled a) = false
+isRefused (NegotiationOver a) = false
+isRefused (KeepaliveOver a) = false
+isRefused (Expired e) = false
+isRefused (LeaveTaken i) = false
+isRefused (StatusTaken i) = false

@@ -1,6 +1,8 @@
 // The operation under way, requests to the radio, and what a decision says.
 ghost use mathlib.Core.Path.{_≡_};
-ghost use Rattle.operation.specs.Operation.{inPhase, asking, ending, afterPolls, isIdle, awaitsScan, awaitsAssociation};
+ghost use Prim.Native.Nat.{_-_};
+ghost use Rattle.operation.specs.Operation.{withNlme, withOperation, withPolls, inPhase, decided, asking, ending, afterPolls, polled, pollCounted, awaited};
+ghost use Rattle.operation.specs.declared.RadioRequest.the-variants.{Transmit};
 use management::KeepaliveAnswer;
 use management::LeaveIndicationSlot;
 use management::NegotiationAnswer;
@@ -11,6 +13,7 @@ use management::SendAnswer;
 use management::StatusIndicationSlot;
 use mlme::MacCapabilityInformation;
 use nib::ExtendedPanId;
+use nib::NwkNeighbor;
 use nib::PanId;
 use nib::ShortAddress;
 use nlme::Nlme;
@@ -76,7 +79,7 @@ pub enum RadioRequest {
     Receive,
 }
 
-// What the radio is told without an outcome.
+// What the radio is told without an outcome: the set-channel or set-address note (01, "Join request and confirm").
 pub enum Note {
     NoNote,
     SetChannel(u8),
@@ -99,7 +102,7 @@ pub enum Step {
     StatusTaken(StatusIndicationSlot),
 }
 
-// What a decision does with the candidates: nothing; the next one is tried; the next one is adopted as parent and tried; the one being tried becomes the parent of this network's member.
+// What a decision does with the candidates: nothing; the next one is tried; the next one is made the parent and tried; the one being tried becomes the parent.
 pub enum Move {
     Stay,
     TakeNext,
@@ -117,6 +120,24 @@ pub struct Decision {
     pub step: Step,
     // the polls that this step used up
     pub polls_used: u8,
+}
+
+// The control part with its nlme part replaced.
+pub fn with_nlme(control: Control, nlme: Nlme) -> Control
+    ensures { λ r. ⌜ r ≡ withNlme nlme control ⌝ }
+{
+    let mut replaced = control;
+    replaced.nlme = nlme;
+    replaced
+}
+
+// How many polls are left.
+pub fn with_polls(control: Control, polls_left: u8) -> Control
+    ensures { λ r. ⌜ r ≡ withOperation (withPolls «polls_left» (control .operation)) control ⌝ }
+{
+    let mut next = control;
+    next.operation.polls_left = polls_left;
+    next
 }
 
 // The control part awaits something else.
@@ -143,102 +164,104 @@ pub fn in_phase(control: Control, phase: Phase) -> Control
     Control { nlme, operation }
 }
 
+// A decision that uses up no poll and leaves the candidate being tried a potential parent.
+pub fn decided(candidate: Move, note: Note, step: Step, control: Control) -> Decision
+    ensures { λ r. ⌜ r ≡ decided candidate note step control ⌝ }
+{
+    Decision {
+        control,
+        clear_potential_parent: false,
+        candidate,
+        note,
+        step,
+        polls_used: 0,
+    }
+}
+
 // A request to the radio, whose outcome is awaited.
 pub fn asking(phase: Phase, request: RadioRequest, control: Control) -> Decision
     ensures { λ r. ⌜ r ≡ asking phase request control ⌝ }
 {
-    let next = in_phase(control, phase);
-    Decision {
-        control: next,
-        clear_potential_parent: false,
-        candidate: Move::Stay,
-        note: Note::NoNote,
-        step: Step::Ask(request),
-        polls_used: 0,
-    }
+    decided(
+        Move::Stay,
+        Note::NoNote,
+        Step::Ask(request),
+        in_phase(control, phase),
+    )
 }
 
 // The operation is over, with its answer.
 pub fn ending(step: Step, control: Control) -> Decision
     ensures { λ r. ⌜ r ≡ ending step control ⌝ }
 {
-    let over = in_phase(control, Phase::Idle);
-    Decision {
-        control: over,
-        clear_potential_parent: false,
-        candidate: Move::Stay,
-        note: Note::NoNote,
+    decided(
+        Move::Stay,
+        Note::NoNote,
         step,
-        polls_used: 0,
-    }
+        in_phase(control, Phase::Idle),
+    )
 }
 
 // A decision whose step used up polls.
 pub fn after_polls(k: u8, decision: Decision) -> Decision
     ensures { λ r. ⌜ r ≡ afterPolls k decision ⌝ }
 {
-    let control = decision.control;
-    let clear_potential_parent = decision.clear_potential_parent;
-    let candidate = decision.candidate;
-    let note = decision.note;
-    let step = decision.step;
-    Decision {
+    let mut out = decision;
+    out.polls_used = k;
+    out
+}
+
+// A frame is handed to the radio.
+pub fn transmit(phase: Phase, frame: Transmission, control: Control) -> Decision
+    ensures { λ r. ⌜ r ≡ asking phase (Transmit frame) control ⌝ }
+{
+    asking(phase, RadioRequest::Transmit(frame), control)
+}
+
+// A poll of the parent, for a purpose.
+pub fn poll(purpose: Purpose, parent: NwkNeighbor, control: Control) -> Decision
+    ensures { λ r. ⌜ r ≡ polled purpose parent control ⌝ }
+{
+    let pan_id = control.nlme.nib.panid;
+    let address = parent.network_address;
+    asking(
+        Phase::Reception(purpose),
+        RadioRequest::Poll(pan_id, address),
         control,
-        clear_potential_parent,
-        candidate,
-        note,
-        step,
-        polls_used: k,
-    }
+    )
 }
 
-// No operation is under way.
-pub fn is_idle(phase: Phase) -> bool
-    ensures { λ r. ⌜ r ≡ isIdle phase ⌝ }
+// One poll less.
+fn one_less(polls: u8) -> u8
+    ensures { λ r. ⌜ r ≡ polls - 1 ⌝ }
 {
-    match phase {
-        Phase::Idle => true,
-        Phase::Discovery => false,
-        Phase::RejoinScan => false,
-        Phase::Association => false,
-        Phase::RejoinSend => false,
-        Phase::DataSend => false,
-        Phase::TimeoutSend(_) => false,
-        Phase::LeaveSend(_, _) => false,
-        Phase::Reception(_) => false,
+    if polls == 0 {
+        return 0;
     }
+    polls - 1
 }
 
-// The outcome of a scan is awaited.
-pub fn awaits_scan(phase: Phase) -> bool
-    ensures { λ r. ⌜ r ≡ awaitsScan phase ⌝ }
+// One of the polls that are left.
+pub fn poll_counted(purpose: Purpose, parent: NwkNeighbor, control: Control) -> Decision
+    ensures { λ r. ⌜ r ≡ pollCounted purpose parent control ⌝ }
 {
-    match phase {
-        Phase::Idle => false,
-        Phase::Discovery => true,
-        Phase::RejoinScan => true,
-        Phase::Association => false,
-        Phase::RejoinSend => false,
-        Phase::DataSend => false,
-        Phase::TimeoutSend(_) => false,
-        Phase::LeaveSend(_, _) => false,
-        Phase::Reception(_) => false,
-    }
+    let left = one_less(control.operation.polls_left);
+    after_polls(1, poll(purpose, parent, with_polls(control, left)))
 }
 
-// The outcome of an association is awaited.
-pub fn awaits_association(phase: Phase) -> bool
-    ensures { λ r. ⌜ r ≡ awaitsAssociation phase ⌝ }
+// The kind of outcome that is awaited: 0 none, 1 a scan's, 2 an association's, 3 a transmission's, 4 a poll's or a receive's.
+pub fn awaited(phase: Phase) -> u8
+    ensures { λ r. ⌜ r ≡ awaited phase ⌝ }
 {
     match phase {
-        Phase::Idle => false,
-        Phase::Discovery => false,
-        Phase::RejoinScan => false,
-        Phase::Association => true,
-        Phase::RejoinSend => false,
-        Phase::DataSend => false,
-        Phase::TimeoutSend(_) => false,
-        Phase::LeaveSend(_, _) => false,
-        Phase::Reception(_) => false,
+        Phase::Idle => 0,
+        Phase::Discovery => 1,
+        Phase::RejoinScan => 1,
+        Phase::Association => 2,
+        Phase::RejoinSend => 3,
+        Phase::DataSend => 3,
+        Phase::TimeoutSend(_) => 3,
+        Phase::LeaveSend(_, _) => 3,
+        Phase::Reception(_) => 4,
     }
 }

@@ -1,0 +1,13 @@
+-- `poll` meets its contract. Assumes nothing.
+use borrow.Author.Needs.{needs}
+use Rattle.operation.proofs.poll.Statement.{statement}
+use Rattle.operation.proofs.poll.Tie as tie
+
+asking-requires : tie.Need-asking-requires
+asking-requires c κs = search needs
+
+returns : tie.Need-returns
+returns c = rw (c .asking .ensures)
+
+pub poll-spec : {M : Type 1} → statement M
+poll-spec = tie.close (tie.spec asking-requires returns)
