@@ -10,7 +10,7 @@ use Rattle.lists.proofs.Conditions.{pick-true, pick-false}
 use Rattle.parent_timer.specs.declared.ParentTimer.{ParentTimer}
 use Rattle.operation.specs.declared.Step.the-variants.{Refused}
 use Rattle.operation.proofs.Step.{the-type}
-use Rattle.node.specs.Refusals.{strayIndex, bad, refuse, always}
+use Rattle.node.specs.Refusals.{strayIndex, bad, refuse, otherOrRefusal}
 use Rattle.node.specs.Calls.{tick}
 use Rattle.node.specs.declared.State.{State}
 use Rattle.node.specs.declared.Answer.{Answer}
@@ -18,7 +18,7 @@ use Rattle.lent_tick.specs.LentTick.{timerOf, withTimer, turnedDown, lea
 
 -- the tag of a tick's answer: 0 for a refusal, 9 for one that says whether the timer expired
 tag-of : (elapsed : ℕ) (s : State) → tagOf the-type (tick elapsed s .step) ≡ cond (bad s) 0 9
-unfolding tick always refuse
+unfolding tick otherOrRefusal refuse
 tag-of elapsed s = go (bad s) _ refl
   where
     go : (b : Bool) (a : Answer) → tagOf the-type (a .step) ≡ 9 → tagOf the-type (cond b (refuse 5 s) a .step) ≡ cond b 0 9
@@ -53,7 +53,7 @@ module _ (t : ParentTimer) (elapsed : ℕ) (s : State) (a : Answer) (e : a ≡ t
 
 -- lent the state's own record, the answer is the state's tick, and the record left is that of the state left
 pub own-record : (elapsed : ℕ) (s : State) → lentTick (timerOf s) elapsed s ≡ leaving (tick elapsed s)
-unfolding lentTick tick always refuse
+unfolding lentTick tick otherOrRefusal refuse
 own-record elapsed s = go (bad s) _
   where
     go : (b : Bool) (a : Answer) → cond b (turnedDown (timerOf s) s) (leaving (cond b (refuse 5 s) a)) ≡ leaving (cond b (refuse 5 s) a)

@@ -24,7 +24,7 @@ use Rattle.received.specs.declared.TableChange.{TableChange}
 use Rattle.received.specs.declared.TableChange.the-variants.{KeepTable, RemoveNeighbor}
 use Rattle.received.specs.declared.Then.{Then}
 use Rattle.received.specs.declared.Then.the-variants.{Over, Announce}
-use Rattle.operation.specs.Operation.{withNlme, awaitsScan, awaitsReception}
+use Rattle.operation.specs.Operation.{withNlme, awaitsScan, awaitsTransmission, awaitsReception}
 use Rattle.operation.specs.declared.Purpose.{Purpose}
 use Rattle.operation.specs.declared.Phase.{Phase}
 use Rattle.operation.specs.declared.Phase.the-variants as phase
@@ -33,7 +33,7 @@ use Rattle.operation.specs.declared.Move.{Move}
 use Rattle.operation.specs.declared.Move.the-variants.{Stay, TakeNext, AdoptNext, JoinTried}
 use Rattle.operation.specs.declared.Decision.{Decision}
 use Rattle.join.specs.Join.{failing, joinStarted}
-use Rattle.steps.specs.Steps.{unawaited, moving, barring, writes, joinAskedBy, scanOverIn, followed, receptionOverIn, transmissionOverIn, leavesNetwork}
+use Rattle.steps.specs.Steps.{moving, barring, writes, joinAskedBy, scanOverIn, followed, receptionOverIn, transmissionOverIn, leavesNetwork}
 use Rattle.scans.specs.Scans.{chosenIn, isDiscovery, heardBy}
 use Rattle.starts.specs.Starts.{forJoin}
 use Rattle.receptions.specs.Receptions.{noDataIn, changedBy}
@@ -42,11 +42,11 @@ use Rattle.node.specs.declared.Answer.{Answer}
 use Rattle.node.specs.declared.ReceptionOutcome.the-variants.{NoData, ReceptionFailed, Received}
 use Rattle.node.specs.Looks.{withControl, withTable, withCandidates, parent, next, broadcast, moved, barred, finish}
 use Rattle.node.specs.Refusals.{refuse}
-use Rattle.node.specs.Calls.{deciding, chosen, joinBy, joinFrom, heard, noConfirm, scanFailed, rejoinHeard, discovered, scanFound, withNode, changed, after, taughtOn, receivedFor, receivedIn, left, sentIn}
-use Rattle.node.specs.Parts.{tablesOf, withTables, answered}
+use Rattle.node.specs.Calls.{deciding, chosen, joinBy, joinFrom, heard, noConfirm, scanFailed, rejoinHeard, discovered, scanFound, withNode, changed, after, taughtOn, receivedFor, receivedIn, afterLeave, sentIn}
+use Rattle.node.specs.Parts.{tablesOf, withTables}
 
--- what is written, and what a decision that writes nothing leaves
-written-is : (m : Move) (b : Bool) (s : State) → withTables (moving m (barring b (tablesOf s))) s ≡ moved m (barred b s)
+-- what a decision writes, or leaves where it writes nothing
+pub written-is : (m : Move) (b : Bool) (s : State) → withTables (moving m (barring b (tablesOf s))) s ≡ moved m (barred b s)
 unfolding moving barring moved barred
 written-is Stay true s = refl
 written-is Stay false s = refl
@@ -57,21 +57,13 @@ written-is AdoptNext false s = refl
 written-is JoinTried true s = refl
 written-is JoinTried false s = refl
 
-pub writing-is : (reset : Bool) (s : State) (d : Decision) → answered reset (withTables (moving (d .candidate) (barring (d .«clear_potential_parent») (tablesOf s))) s) d ≡ finish reset s d
-unfolding finish
-writing-is reset s d = ap (λ (x : State). answered reset x d) (written-is (d .candidate) (d .«clear_potential_parent») s)
-
-unwritten-is : (b : Bool) (m : Move) (s : State) → writes b m ≡ false → s ≡ moved m (barred b s)
+pub unwritten-is : (b : Bool) (m : Move) (s : State) → writes b m ≡ false → s ≡ moved m (barred b s)
 unfolding moved barred
 unwritten-is true m s e = absurd (false≢true (sym e))
 unwritten-is false Stay s e = refl
 unwritten-is false TakeNext s e = absurd (false≢true (sym e))
 unwritten-is false AdoptNext s e = absurd (false≢true (sym e))
 unwritten-is false JoinTried s e = absurd (false≢true (sym e))
-
-pub keeping-is : (reset : Bool) (s : State) (d : Decision) → writes (d .«clear_potential_parent») (d .candidate) ≡ false → answered reset s d ≡ finish reset s d
-unfolding finish
-keeping-is reset s d e = ap (λ (x : State). answered reset x d) (unwritten-is (d .«clear_potential_parent») (d .candidate) s e)
 
 -- a decision brings its own control part
 moved-control : (m : Move) (b : Bool) (c d : Control) (s : State) → withControl d (moved m (barred b s)) ≡ withControl d (moved m (barred b (withControl c s)))
@@ -207,25 +199,25 @@ frame-is (phase.LeaveSend u r) f s = refl
 
 -- Transmissions
 
-unawaited-is : (s : State) → deciding s (unawaited (s .control)) ≡ refuse 2 s
-unfolding finish moved barred refuse
-unawaited-is s = refl
+-- what is answered where a transmission is awaited
+abbrev whereSent : Phase → State → Answer → Answer
+whereSent p s a = cond (awaitsTransmission p) a (refuse 2 s)
 
-pub sent-is : (p : Phase) (ok : Bool) (s : State) → leavesNetwork p ≡ false → deciding s (transmissionOverIn p ok (parent s) (next s) (s .control)) ≡ sentIn p ok s
-unfolding transmissionOverIn sentIn left
+pub sent-is : (p : Phase) (ok : Bool) (s : State) → leavesNetwork p ≡ false → whereSent p s (deciding s (transmissionOverIn p ok (parent s) (next s) (s .control))) ≡ sentIn p ok s
+unfolding transmissionOverIn sentIn afterLeave
 sent-is phase.RejoinSend ok s e = refl
 sent-is phase.DataSend ok s e = refl
 sent-is (phase.TimeoutSend k) ok s e = refl
 sent-is (phase.LeaveSend u true) ok s e = control-is false (withNlme (leaveAnnounced true (s .control .nlme)) (s .control)) s _
 sent-is (phase.LeaveSend u false) ok s e = absurd (false≢true (sym e))
-sent-is phase.Idle ok s e = unawaited-is s
-sent-is phase.Discovery ok s e = unawaited-is s
-sent-is phase.RejoinScan ok s e = unawaited-is s
-sent-is phase.Association ok s e = unawaited-is s
-sent-is (phase.Reception u) ok s e = unawaited-is s
+sent-is phase.Idle ok s e = refl
+sent-is phase.Discovery ok s e = refl
+sent-is phase.RejoinScan ok s e = refl
+sent-is phase.Association ok s e = refl
+sent-is (phase.Reception u) ok s e = refl
 
-pub left-is : (p : Phase) (ok : Bool) (s : State) → leavesNetwork p ≡ true → finish true (withTable (tableOf []) s) (transmissionOverIn p ok (parent (withTable (tableOf []) s)) (next (withTable (tableOf []) s)) (s .control)) ≡ sentIn p ok s
-unfolding transmissionOverIn sentIn left
+pub left-is : (p : Phase) (ok : Bool) (s : State) → leavesNetwork p ≡ true → whereSent p s (finish true (withTable (tableOf []) s) (transmissionOverIn p ok (parent (withTable (tableOf []) s)) (next (withTable (tableOf []) s)) (s .control))) ≡ sentIn p ok s
+unfolding transmissionOverIn sentIn afterLeave
 left-is (phase.LeaveSend u false) ok s e = control-is true (withNlme (leaveAnnounced false (s .control .nlme)) (s .control)) (withTable (tableOf []) s) _
 left-is (phase.LeaveSend u true) ok s e = absurd (false≢true e)
 left-is phase.RejoinSend ok s e = absurd (false≢true e)

@@ -20,9 +20,6 @@ guarded s {x} {a} fits k n e = go (bad s) fits
     go false false = sym (pick-false (eqb k 0) x (refuse k s) n)
 
 -- the refusal of an outcome that another may follow
-abbrev pub refusing : State → Bool → ℕ
-refusing s w = refusalOf w 2 s
-
 pub turned-down : (b w : Bool) (k x : ℕ) → k ≡ cond b 5 (cond w 0 2) → (k ≡ 0 → ⊥) → k ≡ cond b 5 (cond w x 2)
 turned-down true w k x e n = e
 turned-down false true k x e n = absurd (n e)

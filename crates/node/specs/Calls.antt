@@ -60,7 +60,7 @@ use Rattle.node.specs.declared.ReceptionOutcome.{ReceptionOutcome}
 use Rattle.node.specs.declared.ReceptionOutcome.the-variants.{NoData, ReceptionFailed, Received}
 use Rattle.node.specs.declared.Choice.{Choice}
 use Rattle.node.specs.Looks.{withControl, withTable, withCandidates, entries, parent, tried, next, broadcast, finish}
-use Rattle.node.specs.Refusals.{refuse, bad, starting, ending, always}
+use Rattle.node.specs.Refusals.{refuse, bad, startOrRefusal, outcomeOrRefusal, otherOrRefusal}
 
 -- a decision with no reset note
 abbrev pub deciding : State → Decision → Answer
@@ -70,7 +70,7 @@ deciding s d = finish false s d
 
 -- the start of a discovery (Zigbee 3.2.2.3)
 unfoldable pub startDiscovery : ScanRange → State → Answer
-startDiscovery r s = starting s (deciding s (asking phase.Discovery (Scan r) (s .control)))
+startDiscovery r s = startOrRefusal s (deciding s (asking phase.Discovery (Scan r) (s .control)))
 
 -- Join and rejoin (01, "Join request and confirm")
 
@@ -100,21 +100,21 @@ joinBy NwkRejoin r s = deciding s (rejoinStarted r (parent s) (s .control))
 joinBy ChannelChange r s = deciding s (failing InvalidRequest (s .control))
 
 unfoldable pub startJoin : NlmeJoinRequest → State → Answer
-startJoin r s = starting s (joinBy (r .«rejoin_network») r s)
+startJoin r s = startOrRefusal s (joinBy (r .«rejoin_network») r s)
 
 -- Sends, polls, receives, negotiation and keepalive (01, "Supervision record")
 
 unfoldable pub startSend : ShortAddress → Bool → State → Answer
-startSend destination secure s = starting s (deciding s (sendStarted destination secure (parent s) (s .control)))
+startSend destination secure s = startOrRefusal s (deciding s (sendStarted destination secure (parent s) (s .control)))
 
 unfoldable pub startPoll : State → Answer
-startPoll s = starting s (deciding s (pollStarted (parent s) (s .control)))
+startPoll s = startOrRefusal s (deciding s (pollStarted (parent s) (s .control)))
 
 unfoldable pub startReceive : State → Answer
-startReceive s = starting s (deciding s (receiveStarted (s .control)))
+startReceive s = startOrRefusal s (deciding s (receiveStarted (s .control)))
 
 unfoldable pub startTimeout : Bool → State → Answer
-startTimeout keepalive s = starting s (deciding s (timeoutStarted keepalive (parent s) (s .control)))
+startTimeout keepalive s = startOrRefusal s (deciding s (timeoutStarted keepalive (parent s) (s .control)))
 
 -- The outcome of a scan: after 5 and 2, a failure; then 3 above 27 descriptors, then 4 above 16 short-addressed ones
 
@@ -176,7 +176,7 @@ scanned o s =
 
 unfoldable pub associationOver : AssociationOutcome → State → Answer
 associationOver o s =
-    ending (awaitsAssociation (s .control .operation .phase)) s (deciding s (associated o (tried s) (next s) (s .control)))
+    outcomeOrRefusal (awaitsAssociation (s .control .operation .phase)) s (deciding s (associated o (tried s) (next s) (s .control)))
 
 -- The outcome of a poll or a receive (01, "Received frame")
 
@@ -221,20 +221,20 @@ receivedIn (phase.TimeoutSend k) o s = refuse 2 s
 receivedIn (phase.LeaveSend p r) o s = refuse 2 s
 
 unfoldable pub receptionOver : ReceptionOutcome → State → Answer
-receptionOver o s = always s (receivedIn (s .control .operation .phase) o s)
+receptionOver o s = otherOrRefusal s (receivedIn (s .control .operation .phase) o s)
 
 -- The outcome of a transmission
 
 -- after the announcement of a leave; without the rejoin bit the table is cleared and what lies outside this part is reset
-unfoldable pub left : Bool → State → State
-left rejoin s =
+unfoldable pub afterLeave : Bool → State → State
+afterLeave rejoin s =
     cond rejoin (withNode (leaveAnnounced true (s .control .nlme)) s) (withTable (tableOf []) (withNode (leaveAnnounced false (s .control .nlme)) s))
 
 unfoldable pub sentIn : Phase → Bool → State → Answer
 sentIn phase.RejoinSend ok s = deciding s (requestSent ok (parent s) (next s) (s .control))
 sentIn phase.DataSend ok s = deciding s (dataSent ok (parent s) (s .control))
 sentIn (phase.TimeoutSend keepalive) ok s = deciding s (timeoutRequestSent keepalive ok (parent s) (s .control))
-sentIn (phase.LeaveSend p rejoin) ok s = goOn (not rejoin) p PollNothing (left rejoin s)
+sentIn (phase.LeaveSend p rejoin) ok s = goOn (not rejoin) p PollNothing (afterLeave rejoin s)
 sentIn phase.Idle ok s = refuse 2 s
 sentIn phase.Discovery ok s = refuse 2 s
 sentIn phase.RejoinScan ok s = refuse 2 s
@@ -242,7 +242,7 @@ sentIn phase.Association ok s = refuse 2 s
 sentIn (phase.Reception p) ok s = refuse 2 s
 
 unfoldable pub transmissionOver : Bool → State → Answer
-transmissionOver ok s = always s (sentIn (s .control .operation .phase) ok s)
+transmissionOver ok s = otherOrRefusal s (sentIn (s .control .operation .phase) ok s)
 
 -- The tick, the takings and the choice of candidates
 
@@ -253,18 +253,18 @@ abbrev pub clockedBy : NlmeTicked → State → Answer
 clockedBy t s = saying (Expired (t .expired)) (withNode (t .nlme) s)
 
 unfoldable pub tick : ℕ → State → Answer
-tick elapsed s = always s (clockedBy (nlmeTicked (parent s) elapsed (s .control .nlme)) s)
+tick elapsed s = otherOrRefusal s (clockedBy (nlmeTicked (parent s) elapsed (s .control .nlme)) s)
 
 -- "Each indication slot keeps the newest value until taken"
 unfoldable pub takeLeaveIndication : State → Answer
 takeLeaveIndication s =
-    always s
+    otherOrRefusal s
     (saying (LeaveTaken (s .control .nlme .signals .«leave_indication»))
     (withNode (withSignals (withLeaveIndication NoLeaveIndication (s .control .nlme .signals)) (s .control .nlme)) s))
 
 unfoldable pub takeStatusIndication : State → Answer
 takeStatusIndication s =
-    always s
+    otherOrRefusal s
     (saying (StatusTaken (s .control .nlme .signals .«nwk_status_indication»))
     (withNode (withSignals (withStatusIndication NoStatusIndication (s .control .nlme .signals)) (s .control .nlme)) s))
 

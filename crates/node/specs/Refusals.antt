@@ -30,13 +30,13 @@ bad s =
     || strayIndex s))))
 
 -- a start: 5, then 1 if an operation is under way
-unfoldable pub starting : State → Answer → Answer
-starting s a = cond (bad s) (refuse 5 s) (cond (isIdle (s .control .operation .phase)) a (refuse 1 s))
+unfoldable pub startOrRefusal : State → Answer → Answer
+startOrRefusal s a = cond (bad s) (refuse 5 s) (cond (isIdle (s .control .operation .phase)) a (refuse 1 s))
 
 -- an outcome: 5, then 2 if no request awaits that kind
-unfoldable pub ending : Bool → State → Answer → Answer
-ending awaited s a = cond (bad s) (refuse 5 s) (cond awaited a (refuse 2 s))
+unfoldable pub outcomeOrRefusal : Bool → State → Answer → Answer
+outcomeOrRefusal awaited s a = cond (bad s) (refuse 5 s) (cond awaited a (refuse 2 s))
 
 -- a tick or a taking: 5 only
-unfoldable pub always : State → Answer → Answer
-always s a = cond (bad s) (refuse 5 s) a
+unfoldable pub otherOrRefusal : State → Answer → Answer
+otherOrRefusal s a = cond (bad s) (refuse 5 s) a

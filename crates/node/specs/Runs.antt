@@ -46,5 +46,5 @@ answer s takeLeave = takeLeaveIndication s
 answer s takeStatus = takeStatusIndication s
 
 -- no operation is under way
-abbrev pub Idle : State → Type 0
-Idle s = isIdle (s .control .operation .phase) ≡ true
+abbrev pub NoneUnderWay : State → Type 0
+NoneUnderWay s = isIdle (s .control .operation .phase) ≡ true

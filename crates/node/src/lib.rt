@@ -1,10 +1,12 @@
 // A node's state, and every call that can be made on it.
 ghost use mathlib.Core.Path.{_≡_};
 ghost use mathlib.Core.Bool.{true, false};
-ghost use Rattle.node.specs.Looks.{withTable, withCandidates, parent, next, finish};
-ghost use Rattle.node.specs.Refusals.{refuse, bad, starting, ending};
+ghost use lib.Dec.{eqb};
+ghost use Rattle.operation.specs.Operation.{awaited};
+ghost use Rattle.node.specs.Looks.{withControl, withTable, withCandidates, parent, next, moved, barred, finish};
+ghost use Rattle.node.specs.Refusals.{refuse, bad, startOrRefusal, outcomeOrRefusal, otherOrRefusal};
 ghost use Rattle.node.specs.Calls.{deciding, startDiscovery, startJoin, startSend, startPoll, startReceive, startTimeout, scanned, associationOver, receptionOver, transmissionOver, tick, takeLeaveIndication, takeStatusIndication, choose};
-ghost use Rattle.node.specs.Parts.{tablesOf, withTables, answered, refusalOf, closed, scanRefusal, nothingReceived, frameReceivedOn, leftAfter};
+ghost use Rattle.node.specs.Parts.{tablesOf, withTables, refusalOf, closed, scanRefusal, scanDecided, nothingReceived, dealtOn, leftAfter};
 use candidates::CandidateList;
 use discovery::NlmeNetworkDiscoveryConfirm;
 use frame::ReceivedFrame;
@@ -19,10 +21,12 @@ use nib::NeighborTable;
 use nib::ShortAddress;
 use operation::Control;
 use operation::Decision;
+use operation::Move;
 use operation::Note;
 use operation::Phase;
 use operation::Step;
 use received::Then;
+use receptions::FrameDecision;
 use steps::Tables;
 use tries::Candidates;
 
@@ -32,7 +36,7 @@ pub struct State {
     pub candidates: Candidates,
 }
 
-// What a call answers: the next state; whether a leave reset what lies outside this part; what the radio is told; the request, confirm, answer or refusal; and the polls that the step used up.
+// What a call answers: the next state; the reset note of a leave (01, "Received frame"); what the radio is told; the request, confirm, answer or refusal; and the polls that the step used up.
 pub struct Answer {
     pub state: State,
     pub reset: bool,
@@ -75,12 +79,27 @@ impl State {
         operation.phase
     }
 
+    // The kind of outcome that is awaited, 0 for none.
+    fn awaited(self) -> u8
+        ensures { λ r. ⌜ r ≡ awaited (self .control .operation .phase) ⌝ }
+    {
+        operation::awaited(self.phase())
+    }
+
     fn tables(self) -> Tables
         ensures { λ r. ⌜ r ≡ tablesOf self ⌝ }
     {
         let table = self.table;
         let candidates = self.candidates;
         Tables { table, candidates }
+    }
+
+    fn with_control(self, control: Control) -> State
+        ensures { λ r. ⌜ r ≡ withControl control self ⌝ }
+    {
+        let mut out = self;
+        out.control = control;
+        out
     }
 
     fn with_table(self, table: NeighborTable) -> State
@@ -122,34 +141,30 @@ impl State {
 
 // A decision carried out, and when a call is turned down.
 impl State {
-    // What is answered where the table and the candidates stay as they are.
-    fn answered(self, reset: bool, decision: Decision) -> Answer
-        ensures { λ r. ⌜ r ≡ answered reset self decision ⌝ }
+    // What a decision writes to the table and the candidates.
+    fn written(self, clear: bool, candidate: Move) -> State
+        ensures { λ r. ⌜ r ≡ moved candidate (barred clear self) ⌝ }
     {
-        let mut state = self;
-        let control = decision.control;
-        state.control = control;
-        let note = decision.note;
-        let step = decision.step;
-        Answer {
-            state,
-            reset,
-            note,
-            step,
-            polls_used: decision.polls_used,
+        if steps::writes(clear, candidate) {
+            return self.with_tables(steps::written(self.tables(), clear, candidate));
         }
+        self
     }
 
     fn carried_out(self, reset: bool, decision: Decision) -> Answer
         ensures { λ r. ⌜ r ≡ finish reset self decision ⌝ }
     {
-        let clear = decision.clear_potential_parent;
         let candidate = decision.candidate;
-        if steps::writes(clear, candidate) {
-            let written = steps::written(self.tables(), clear, candidate);
-            return self.with_tables(written).answered(reset, decision);
+        let written = self.written(decision.clear_potential_parent, candidate);
+        let note = decision.note;
+        let step = decision.step;
+        Answer {
+            state: written.with_control(decision.control),
+            reset,
+            note,
+            step,
+            polls_used: decision.polls_used,
         }
-        self.answered(reset, decision)
     }
 
     fn refuse(self, refusal: u8) -> Answer
@@ -183,20 +198,20 @@ impl State {
         if 20 < self.control.operation.polls_left {
             return true;
         }
-        if !operation::awaits_association(self.phase()) {
+        if self.awaited() != 2 {
             return false;
         }
         tries::strays(self.table.count, self.candidates)
     }
 
-    // 5, then another refusal unless the call fits what is awaited; 0 where the call is not turned down.
-    fn refusal(self, fits: bool, otherwise: u8) -> u8
-        ensures { λ r. ⌜ r ≡ refusalOf fits otherwise self ⌝ }
+    // 5, then another refusal unless the kind of outcome that a call goes with is awaited; 0 where the call is not turned down.
+    fn refusal(self, kind: u8, otherwise: u8) -> u8
+        ensures { λ r. ⌜ r ≡ refusalOf (eqb (awaited (self .control .operation .phase)) kind) otherwise self ⌝ }
     {
         if self.is_bad() {
             return 5;
         }
-        if fits {
+        if self.awaited() == kind {
             return 0;
         }
         otherwise
@@ -212,19 +227,28 @@ impl State {
         changed.carried_out(reset, decision)
     }
 
+    // A start, which goes with no outcome.
     fn starting(self, changed: State, decision: Decision) -> Answer
-        ensures { λ r. ⌜ r ≡ starting self (deciding changed decision) ⌝ }
+        ensures { λ r. ⌜ r ≡ startOrRefusal self (deciding changed decision) ⌝ }
     {
-        let refusal = self.refusal(operation::is_idle(self.phase()), 1);
-        self.closed(refusal, changed, false, decision)
+        self.closed(self.refusal(0, 1), changed, false, decision)
     }
 
-    // An outcome, a tick or a taking.
-    fn ending(self, awaited: bool, decision: Decision) -> Answer
-        ensures { λ r. ⌜ r ≡ ending awaited self (deciding self decision) ⌝ }
+    // The outcome of a kind.
+    fn ending(self, kind: u8, decision: Decision) -> Answer
+        ensures { λ r. ⌜ r ≡ outcomeOrRefusal (eqb (awaited (self .control .operation .phase)) kind) self (deciding self decision) ⌝ }
     {
-        let refusal = self.refusal(awaited, 2);
-        self.closed(refusal, self, false, decision)
+        self.closed(self.refusal(kind, 2), self, false, decision)
+    }
+
+    // A tick or a taking.
+    fn always(self, decision: Decision) -> Answer
+        ensures { λ r. ⌜ r ≡ otherOrRefusal self (deciding self decision) ⌝ }
+    {
+        if self.is_bad() {
+            return self.refuse(5);
+        }
+        self.carried_out(false, decision)
     }
 }
 
@@ -281,17 +305,26 @@ impl State {
 
 // The outcome of a scan.
 impl State {
-    fn scan_refusal(self, outcome: ScanOutcome) -> u8
-        ensures { λ r. ⌜ r ≡ scanRefusal outcome self ⌝ }
+    fn scan_refusal(self, failed: bool, list: PanDescriptorList) -> u8
+        ensures { λ r. ⌜ r ≡ scanRefusal failed list self ⌝ }
     {
-        let earlier = self.refusal(operation::awaits_scan(self.phase()), 2);
+        let earlier = self.refusal(1, 2);
         if earlier != 0 {
             return earlier;
         }
-        if outcome.failed {
+        if failed {
             return 0;
         }
-        scans::list_refusal(outcome.list)
+        scans::list_refusal(list)
+    }
+
+    fn scan_decided(self, refusal: u8, failed: bool, list: PanDescriptorList) -> Answer
+        ensures { λ r. ⌜ r ≡ scanDecided refusal failed list self ⌝ }
+    {
+        let tables = scans::after_scan(failed, list, self.tables(), self.control);
+        let changed = self.with_tables(tables);
+        let decision = starts::scan_over(failed, changed.next(), self.control);
+        self.closed(refusal, changed, false, decision)
     }
 
     pub fn scan_over(self, outcome: ScanOutcome) -> ScanAnswer
@@ -299,16 +332,9 @@ impl State {
     {
         let failed = outcome.failed;
         let list = outcome.list;
-        let refusal = self.scan_refusal(outcome);
+        let refusal = self.scan_refusal(failed, list);
         let confirm = scans::confirm_of(self.phase(), refusal, failed, list);
-        let changed = self.with_tables(scans::after_scan(
-            failed,
-            list,
-            self.tables(),
-            self.control,
-        ));
-        let decision = starts::scan_over(failed, changed.next(), self.control);
-        let answer = self.closed(refusal, changed, false, decision);
+        let answer = self.scan_decided(refusal, failed, list);
         ScanAnswer { answer, confirm }
     }
 }
@@ -318,28 +344,29 @@ impl State {
     pub fn association_over(self, outcome: AssociationOutcome) -> Answer
         ensures { λ r. ⌜ r ≡ associationOver outcome self ⌝ }
     {
-        let awaited = operation::awaits_association(self.phase());
         let tried = tries::tried(self.table, self.candidates);
         let decision = join::association_over(self.control, outcome, tried, self.next());
-        self.closed(self.refusal(awaited, 2), self, false, decision)
+        self.ending(2, decision)
     }
 
     fn nothing_received(self, answer: PollAnswer) -> Answer
         ensures { λ r. ⌜ r ≡ nothingReceived answer self ⌝ }
     {
-        let awaited = receptions::awaits_reception(self.phase());
         let then = Then::Over(answer);
         let decision = receptions::reception_over(then, self.parent(), self.next(), self.control);
-        self.closed(self.refusal(awaited, 2), self, false, decision)
+        self.ending(4, decision)
     }
 
-    fn frame_received(self, frame: ReceivedFrame) -> Answer
-        ensures { λ r. ⌜ r ≡ frameReceivedOn frame self ⌝ }
+    fn dealt_with(self, dealt: FrameDecision) -> Answer
+        ensures { λ r. ⌜ r ≡ dealtOn dealt self ⌝ }
     {
-        let refusal = self.refusal(receptions::awaits_reception(self.phase()), 2);
-        let dealt = receptions::frame_received(frame, self.table, self.candidates, self.control);
         let decision = dealt.decision;
-        self.closed(refusal, self.with_table(dealt.table), false, decision)
+        self.closed(
+            self.refusal(4, 2),
+            self.with_table(dealt.table),
+            false,
+            decision,
+        )
     }
 
     pub fn reception_over(self, outcome: ReceptionOutcome) -> Answer
@@ -347,10 +374,19 @@ impl State {
     {
         match outcome {
             ReceptionOutcome::NoData => {
-                self.nothing_received(receptions::no_data_in(self.phase()))
+                return self.nothing_received(receptions::no_data_in(self.phase()));
             }
-            ReceptionOutcome::ReceptionFailed => self.nothing_received(PollAnswer::PollMacError),
-            ReceptionOutcome::Received(frame) => self.frame_received(frame),
+            ReceptionOutcome::ReceptionFailed => {
+                return self.nothing_received(PollAnswer::PollMacError);
+            }
+            ReceptionOutcome::Received(frame) => {
+                return self.dealt_with(receptions::frame_received(
+                    frame,
+                    self.table,
+                    self.candidates,
+                    self.control,
+                ));
+            }
         }
     }
 
@@ -365,7 +401,7 @@ impl State {
             changed.next(),
             self.control,
         );
-        self.closed(self.refusal(true, 2), changed, true, decision)
+        self.closed(self.refusal(3, 2), changed, true, decision)
     }
 
     pub fn transmission_over(self, sent: bool) -> Answer
@@ -380,7 +416,7 @@ impl State {
             self.next(),
             self.control,
         );
-        self.closed(self.refusal(true, 2), self, false, decision)
+        self.ending(3, decision)
     }
 }
 
@@ -389,19 +425,19 @@ impl State {
     pub fn tick_parent_timeout(self, elapsed_ms: u32) -> Answer
         ensures { λ r. ⌜ r ≡ tick «elapsed_ms» self ⌝ }
     {
-        self.ending(true, steps::ticked(elapsed_ms, self.parent(), self.control))
+        self.always(steps::ticked(elapsed_ms, self.parent(), self.control))
     }
 
     pub fn take_leave_indication(self) -> Answer
         ensures { λ r. ⌜ r ≡ takeLeaveIndication self ⌝ }
     {
-        self.ending(true, steps::leave_taken(self.control))
+        self.always(steps::leave_taken(self.control))
     }
 
     pub fn take_nwk_status_indication(self) -> Answer
         ensures { λ r. ⌜ r ≡ takeStatusIndication self ⌝ }
     {
-        self.ending(true, steps::status_taken(self.control))
+        self.always(steps::status_taken(self.control))
     }
 
     pub fn select_candidates(

@@ -4,7 +4,7 @@ ghost use Rattle.nib.specs.Neighbors.{entriesOf};
 ghost use Rattle.neighbor_table.specs.NeighborTable.{ieeeOf};
 ghost use Rattle.tries.specs.Tries.{parentIn};
 ghost use Rattle.received.specs.Received.{handled};
-ghost use Rattle.operation.specs.Operation.{withNlme, asking, awaitsReception};
+ghost use Rattle.operation.specs.Operation.{withNlme, asking};
 ghost use Rattle.operation.specs.declared.Phase.the-variants.{LeaveSend};
 ghost use Rattle.operation.specs.declared.RadioRequest.the-variants.{Transmit};
 ghost use Rattle.steps.specs.Steps.{continuing, followed, receptionOverIn, receptionOver};
@@ -104,23 +104,6 @@ pub fn reception_over(then: Then, parent: Neighbor, next: Neighbor, control: Con
     let operation = control.operation;
     let phase = operation.phase;
     reception_over_in(phase, then, parent, next, control)
-}
-
-// The outcome of a poll or a receive is awaited.
-pub fn awaits_reception(phase: Phase) -> bool
-    ensures { λ r. ⌜ r ≡ awaitsReception phase ⌝ }
-{
-    match phase {
-        Phase::Idle => false,
-        Phase::Discovery => false,
-        Phase::RejoinScan => false,
-        Phase::Association => false,
-        Phase::RejoinSend => false,
-        Phase::DataSend => false,
-        Phase::TimeoutSend(_) => false,
-        Phase::LeaveSend(_, _) => false,
-        Phase::Reception(_) => true,
-    }
 }
 
 // What a poll or a receive that brings nothing answers.

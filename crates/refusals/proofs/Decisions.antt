@@ -14,6 +14,7 @@ use Rattle.management.specs.declared.RejoinResponseSlot.{RejoinResponseSlot}
 use Rattle.management.specs.declared.RejoinResponseSlot.the-variants.{HasRejoinResponse, NoRejoinResponse}
 use Rattle.management.specs.declared.TimeoutResponseSlot.{TimeoutResponseSlot}
 use Rattle.management.specs.declared.TimeoutResponseSlot.the-variants.{HasTimeoutResponse, NoTimeoutResponse}
+use Rattle.operation.specs.Operation.{isRefused}
 use Rattle.operation.specs.declared.Purpose.{Purpose}
 use Rattle.operation.specs.declared.Purpose.the-variants.{RejoinResponse, SinglePoll, SingleReceive, TimeoutResponse}
 use Rattle.operation.specs.declared.Control.{Control}
@@ -25,7 +26,6 @@ use Rattle.join.specs.declared.AssociationOutcome.the-variants.{Associated, Ass
 use Rattle.rejoin.specs.Rejoin.{invalid, trying, scanOrEnd, tryRemembered, rejoinStarted, tryCandidate, tryNext, tryFailed, rejoined, responded, polling, unanswered, pollParent, answeredBy, pollOn, requestSent}
 use Rattle.exchange.specs.Exchange.{sendStarted, dataSent, pollStarted, pollOver, notJoined, requestFailed, accepted, rejected, timeoutStarted, timeoutPolling, timeoutUnanswered, timeoutPollParent, timeoutAnsweredBy, timeoutPollOn, timeoutRequestSent}
 use Rattle.steps.specs.Steps.{continuing}
-use Rattle.rejoin_bound.specs.Bound.{isRefused}
 
 abbrev pub Made : Decision → Type 0
 Made d = isRefused (d .step) ≡ false

@@ -15,15 +15,16 @@ use Rattle.management.specs.declared.NlmeJoinRequest.{NlmeJoinRequest}
 use Rattle.management.specs.declared.PollAnswer.{PollAnswer}
 use Rattle.received.specs.declared.Then.{Then}
 use Rattle.received.specs.declared.Then.the-variants.{Over, Announce}
-use Rattle.operation.specs.Operation.{isIdle, awaitsScan, awaitsAssociation, awaitsReception}
+use Rattle.parent_timer.specs.declared.ParentTimer.{ParentTimer}
+use Rattle.operation.specs.Operation.{isIdle, awaitsScan, awaitsAssociation, awaitsTransmission, awaitsReception, isRefused}
 use Rattle.operation.specs.declared.Purpose.{Purpose}
 use Rattle.operation.specs.declared.Phase.{Phase}
 use Rattle.operation.specs.declared.Phase.the-variants.{Idle, Discovery, RejoinScan, Association, RejoinSend, DataSend, TimeoutSend, LeaveSend, Reception}
 use Rattle.operation.specs.declared.Decision.{Decision}
 use Rattle.exchange.specs.Exchange.{receiveStarted}
 use Rattle.node.specs.Looks.{finish}
-use Rattle.node.specs.Refusals.{bad, starting, ending, always}
-use Rattle.node.specs.Calls.{startDiscovery, joinFrom, joinBy, startJoin, startSend, startPoll, startReceive, startTimeout, scanFailed, rejoinHeard, discovered, scanFound, scanListed, scanned, associationOver, goOn, after, receivedFor, receivedIn, receptionOver, left, sentIn, transmissionOver, tick, takeLeaveIndication, takeStatusIndication, choose}
+use Rattle.node.specs.Refusals.{refuse, strayIndex, bad, startOrRefusal, outcomeOrRefusal, otherOrRefusal}
+use Rattle.node.specs.Calls.{startDiscovery, joinFrom, joinBy, startJoin, startSend, startPoll, startReceive, startTimeout, scanFailed, rejoinHeard, discovered, scanFound, scanListed, scanned, associationOver, goOn, after, receivedFor, receivedIn, receptionOver, afterLeave, sentIn, transmissionOver, tick, takeLeaveIndication, takeStatusIndication, choose}
 use Rattle.node.specs.Runs.{Call, discovery, join, send, poll, receive, timeout, scan, association, transmission, reception, elapsed, takeLeave, takeStatus, answer}
 use Rattle.node.specs.declared.State.{State}
 use Rattle.node.specs.declared.Answer.{Answer}
@@ -32,7 +33,8 @@ use Rattle.node.specs.declared.ScanOutcome.{ScanOutcome}
 use Rattle.node.specs.declared.ScanAnswer.{ScanAnswer}
 use Rattle.node.specs.declared.ReceptionOutcome.{ReceptionOutcome}
 use Rattle.node.specs.declared.ReceptionOutcome.the-variants.{NoData, ReceptionFailed, Received}
-use Rattle.refusals.specs.Statement.{awaitsTransmission, unfit, refusal, MadeOr, Demand1}
+use Rattle.lent_tick.specs.LentTick.{withTimer, turnedDown, leaving, lentTick}
+use Rattle.refusals.specs.Statement.{unfit, refusal, MadeOr, LentOr, Demand1}
 use Rattle.refusals.proofs.Decisions.{Made, join-made, associated-made, rejoin-made, next-made, request-made, send-made, sent-made, pollStarted-made, timeout-made, timeoutSent-made, continuing-made}
 
 -- a number and an answer chosen by the same test
@@ -61,8 +63,8 @@ joinBy-made network.Orphan r s = carried false s _ refl
 joinBy-made network.NwkRejoin r s = carried false s _ (rejoin-made r _ _)
 joinBy-made network.ChannelChange r s = carried false s _ refl
 
-start-made : (s : State) (a : Answer) → MadeOr s 0 a → MadeOr s (cond (bad s) 5 (cond (isIdle (s .control .operation .phase)) 0 1)) (starting s a)
-unfolding starting
+start-made : (s : State) (a : Answer) → MadeOr s 0 a → MadeOr s (cond (bad s) 5 (cond (isIdle (s .control .operation .phase)) 0 1)) (startOrRefusal s a)
+unfolding startOrRefusal
 start-made s a h = both (MadeOr s) (bad s) (λ _. refl) (both (MadeOr s) (isIdle (s .control .operation .phase)) (λ _. h) refl)
 
 -- OUTCOMES
@@ -134,18 +136,18 @@ transmission-made ok s Association = refl
 transmission-made ok s RejoinSend = carried false s _ (request-made ok _ _ _)
 transmission-made ok s DataSend = carried false s _ (sent-made ok _ _)
 transmission-made ok s (TimeoutSend k) = carried false s _ (timeoutSent-made k ok _ _)
-transmission-made ok s (LeaveSend u r) = goOn-made _ u _ (left r s)
+transmission-made ok s (LeaveSend u r) = goOn-made _ u _ (afterLeave r s)
 transmission-made ok s (Reception u) = refl
 
 -- EVERY CALL
 
 -- refusal 5 alone, or before others
-always-made : (s : State) (k : ℕ) (a : Answer) → MadeOr s k a → MadeOr s (cond (bad s) 5 k) (always s a)
-unfolding always
+always-made : (s : State) (k : ℕ) (a : Answer) → MadeOr s k a → MadeOr s (cond (bad s) 5 k) (otherOrRefusal s a)
+unfolding otherOrRefusal
 always-made s k a h = both (MadeOr s) (bad s) (λ _. refl) h
 
 answer-made : (s : State) (c : Call) → MadeOr s (refusal s c) (answer s c)
-unfolding startDiscovery startJoin startSend startPoll startReceive startTimeout receiveStarted associationOver ending transmissionOver receptionOver tick takeLeaveIndication takeStatusIndication
+unfolding startDiscovery startJoin startSend startPoll startReceive startTimeout receiveStarted associationOver outcomeOrRefusal transmissionOver receptionOver tick takeLeaveIndication takeStatusIndication
 answer-made s (discovery r) = start-made s _ (carried false s _ refl)
 answer-made s (join r) = start-made s _ (joinBy-made _ r s)
 answer-made s (send d secure) = start-made s _ (carried false s _ (send-made d secure _ _))
@@ -161,6 +163,14 @@ answer-made s (reception o) = always-made s _ _ (reception-made o s (s .control 
 answer-made s (elapsed ms) = always-made s 0 _ refl
 answer-made s takeLeave = always-made s 0 _ refl
 answer-made s takeStatus = always-made s 0 _ refl
+
+lent-made : (t : ParentTimer) (ms : ℕ) (s : State) → LentOr t s (cond (bad s) 5 0) (lentTick t ms s)
+unfolding lentTick tick otherOrRefusal bad strayIndex
+lent-made t ms s = go (bad s) _ refl
+  where
+    go : (b : Bool) (a : Answer) → isRefused (a .step) ≡ false → LentOr t s (cond b 5 0) (cond b (turnedDown t s) (leaving (cond b (refuse 5 (withTimer t s)) a)))
+    go true a h = refl
+    go false a h = h
 
 -- THE NUMBERS
 
@@ -193,6 +203,7 @@ choice-made n router permit s = both (λ (k : ℕ) (c : Choice). c .refusal ≡ 
 pub demand-1 : Demand1
 demand-1 = record {
   answered = answer-made;
+  lent = lent-made;
   numbered = λ s c. chosen-from (bad s) (omega arith) (unfit-numbered (s .control .operation .phase) c);
   choice = choice-made;
 }

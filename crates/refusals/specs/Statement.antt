@@ -1,30 +1,19 @@
 -- The statement of demand 1: "Any state, request, beacon list or outcome handed to a public entry gets the step made or one of refusals 1 to 5; after a refusal the
--- state is the one handed in" (01, "When a call is turned down").
+-- state is the one handed in". The numbers and their order are those of 01, "When a call is turned down".
 use Prim.Native.Nat.{ℕ, zero, suc, _≤_}
 use mathlib.Core.Path.{_≡_}
-use mathlib.Core.Bool.{Bool, true, false, cond}
-use Rattle.operation.specs.Operation.{isIdle, awaitsScan, awaitsAssociation, awaitsReception}
+use mathlib.Core.Bool.{Bool, false, cond}
+use Rattle.parent_timer.specs.declared.ParentTimer.{ParentTimer}
+use Rattle.operation.specs.Operation.{isIdle, awaitsScan, awaitsAssociation, awaitsTransmission, awaitsReception, isRefused}
 use Rattle.operation.specs.declared.Phase.{Phase}
-use Rattle.operation.specs.declared.Phase.the-variants as phase
 use Rattle.scans.specs.Scans.{listRefusal}
 use Rattle.node.specs.Refusals.{refuse, bad}
 use Rattle.node.specs.Calls.{choose}
 use Rattle.node.specs.Runs.{Call, discovery, join, send, poll, receive, timeout, scan, association, transmission, reception, elapsed, takeLeave, takeStatus, answer}
 use Rattle.node.specs.declared.State.{State}
 use Rattle.node.specs.declared.Answer.{Answer}
-use Rattle.rejoin_bound.specs.Bound.{isRefused}
-
--- what awaits the outcome of a transmission; the other kinds stand in the crate operation
-abbrev pub awaitsTransmission : Phase → Bool
-awaitsTransmission phase.Idle = false
-awaitsTransmission phase.Discovery = false
-awaitsTransmission phase.RejoinScan = false
-awaitsTransmission phase.Association = false
-awaitsTransmission phase.RejoinSend = true
-awaitsTransmission phase.DataSend = true
-awaitsTransmission (phase.TimeoutSend k) = true
-awaitsTransmission (phase.LeaveSend p r) = true
-awaitsTransmission (phase.Reception p) = false
+use Rattle.lent_tick.specs.LentTick.{lentTick}
+use Rattle.lent_tick.specs.declared.LentTicked.{LentTicked}
 
 -- "Start ..: .. then 1 if an operation is under way. Outcome: .. then 2 if no request awaits that kind; for a scan, 3 above 27 descriptors, then 4 above 16 short-addressed
 -- ones. Tick, .. taking an indication: 5 only." 0 for none; of a scan that failed no list is looked at
@@ -52,8 +41,14 @@ abbrev pub MadeOr : State → ℕ → Answer → Type 0
 MadeOr s zero a = isRefused (a .step) ≡ false
 MadeOr s (suc k) a = a ≡ refuse (suc k) s
 
--- the claim: whatever call is made on whatever state; and of the choice of candidates, which has no state to hand back, "5 only"
+-- the same of a tick over a lent record: a refusal leaves the record as it was lent ("State and lent buffers then stay as handed in")
+abbrev pub LentOr : ParentTimer → State → ℕ → LentTicked → Type 0
+LentOr t s zero l = isRefused (l .answer .step) ≡ false
+LentOr t s (suc k) l = l ≡ record { timer = t; answer = refuse (suc k) s }
+
+-- the claim: whatever call is made on whatever state; of the tick over a lent record, and of the choice of candidates, which has no state to hand back, "5 only"
 pub record Demand1 : Type 0 where
   pub answered : (s : State) (c : Call) → MadeOr s (refusal s c) (answer s c)
+  pub lent : (t : ParentTimer) (elapsed : ℕ) (s : State) → LentOr t s (cond (bad s) 5 0) (lentTick t elapsed s)
   pub numbered : (s : State) (c : Call) → refusal s c ≤ 5
   pub choice : (n : ℕ) (router permit : Bool) (s : State) → choose n router permit s .refusal ≡ cond (bad s) 5 0

@@ -38,10 +38,10 @@ use Rattle.operation.specs.Operation.{asking, isIdle, awaitsScan, awaitsAssocia
 use Rattle.join.specs.Join.{failing, associating, resetNegotiation, storeCapabilities, joinStarted}
 use Rattle.rejoin.specs.Rejoin.{invalid, trying, tryRemembered, begun, rejoinStarted}
 use Rattle.node.specs.Looks.{withTable, entries, parent, next, broadcast, moved, barred, finish}
-use Rattle.node.specs.Refusals.{refuse, bad, starting, ending, always}
+use Rattle.node.specs.Refusals.{refuse, bad, startOrRefusal, outcomeOrRefusal, otherOrRefusal}
 use Rattle.steps.specs.Steps.{continuing}
 use Rattle.receptions.specs.Receptions.{noData}
-use Rattle.node.specs.Calls.{deciding, startDiscovery, chosen, withChosen, joinFrom, joinBy, startJoin, startSend, startPoll, startReceive, startTimeout, heard, scanFailed, rejoinHeard, scanFound, scanListed, scanned, associationOver, goOn, withNode, changed, after, taughtOn, receivedFor, receivedIn, receptionOver, left, sentIn, transmissionOver, tick, takeLeaveIndication, takeStatusIndication}
+use Rattle.node.specs.Calls.{deciding, startDiscovery, chosen, withChosen, joinFrom, joinBy, startJoin, startSend, startPoll, startReceive, startTimeout, heard, scanFailed, rejoinHeard, scanFound, scanListed, scanned, associationOver, goOn, withNode, changed, after, taughtOn, receivedFor, receivedIn, receptionOver, afterLeave, sentIn, transmissionOver, tick, takeLeaveIndication, takeStatusIndication}
 use Rattle.node.specs.Runs.{Call, discovery, join, send, poll, receive, timeout, scan, association, transmission, reception, elapsed, takeLeave, takeStatus, answer}
 use Rattle.node.specs.declared.State.{State}
 use Rattle.node.specs.declared.Answer.{Answer}
@@ -133,10 +133,10 @@ unfolding changed
 changed-within c s KeepTable u h = after-within s c u h
 changed-within c s (RemoveNeighbor a) u h = after-within (withTable (tableOf (retained (a .0) (entries s))) s) c u h
 
-left-within : {m : ℕ} (c : Call) (s : State) (rejoin : Bool) → suc (still s (s .control .operation)) ≤ m → Within m c (goOn (not rejoin) RejoinResponse PollNothing (left rejoin s))
-unfolding left
-left-within c s true h = goOn-within (left true s) c false PollNothing h
-left-within c s false h = goOn-within (left false s) c true PollNothing h
+left-within : {m : ℕ} (c : Call) (s : State) (rejoin : Bool) → suc (still s (s .control .operation)) ≤ m → Within m c (goOn (not rejoin) RejoinResponse PollNothing (afterLeave rejoin s))
+unfolding afterLeave
+left-within c s true h = goOn-within (afterLeave true s) c false PollNothing h
+left-within c s false h = goOn-within (afterLeave false s) c true PollNothing h
 
 -- of a scan the confirm plays no part
 record ScanWithin (m : ℕ) (c : Call) (a : ScanAnswer) : Type 0 where
@@ -202,8 +202,8 @@ module _ (s : State) where
         (λ _. record { fits = scanFound-within o (descriptorsOf (o .list)) r refl }))))
         (λ _. record { fits = turned (scan o) 2 }) .fits))
 
-    start-within : (c : Call) (a : Answer) → Within (potential s) c (starting s a)
-    unfolding starting
+    start-within : (c : Call) (a : Answer) → Within (potential s) c (startOrRefusal s a)
+    unfolding startOrRefusal
     start-within c a =
         guarded c s _ (subst (Within (measure s) c) (pick-false (isIdle (s .control .operation .phase)) a (refuse 1 s) (elsewhere r .0)) (turned c 1))
 
@@ -212,7 +212,7 @@ module _ (s : State) where
     told n = potential-le (withNode n s)
 
     within : (c : Call) → Within (potential s) c (answer s c)
-    unfolding startDiscovery startJoin startSend startPoll startReceive startTimeout associationOver transmissionOver receptionOver tick takeLeaveIndication takeStatusIndication ending always
+    unfolding startDiscovery startJoin startSend startPoll startReceive startTimeout associationOver transmissionOver receptionOver tick takeLeaveIndication takeStatusIndication outcomeOrRefusal otherOrRefusal
     within (discovery q) = start-within (discovery q) _
     within (join q) = start-within (join q) _
     within (send a b) = start-within (send a b) _

@@ -28,9 +28,9 @@ use Rattle.received.specs.Received.{taughtBy, taught, acceptsLeave, leaveReques
 use Rattle.operation.specs.declared.Phase.the-variants.{Idle}
 use Rattle.rejoin.specs.Rejoin.{invalid, trying, scanOrEnd, tryRemembered, rejoinStarted, tryCandidate, tryNext, tryFailed, polling, unanswered, pollParent, answeredBy, pollOn, requestSent}
 use Rattle.node.specs.Looks.{moved, barred, finish}
-use Rattle.node.specs.Refusals.{strayIndex, bad, starting, always}
+use Rattle.node.specs.Refusals.{strayIndex, bad, startOrRefusal, otherOrRefusal}
 use Rattle.steps.specs.Steps.{continuing}
-use Rattle.node.specs.Calls.{joinBy, startJoin, heard, chosen, rejoinHeard, scanFound, scanListed, scanned, changed, after, receivedFor, receivedIn, receptionOver, left, sentIn, transmissionOver}
+use Rattle.node.specs.Calls.{joinBy, startJoin, heard, chosen, rejoinHeard, scanFound, scanListed, scanned, changed, after, receivedFor, receivedIn, receptionOver, afterLeave, sentIn, transmissionOver}
 use Rattle.node.specs.Runs.{Call, scan, transmission, reception}
 use Rattle.node.specs.declared.State.{State}
 use Rattle.node.specs.declared.ReceptionOutcome.the-variants.{Received}
@@ -151,9 +151,9 @@ abbrev calls : List Call
 calls = unansweredTry ++ (heardBeacons ∷ times 16 unansweredTry)
 
 pub bound-reached : BoundReached
-unfolding startJoin starting bad strayIndex joinBy rejoinStarted invalid tryRemembered trying negotiationReset finish moved barred parentIn parentOf
-    transmissionOver sentIn requestSent pollOn answeredBy pollParent polling unanswered tryFailed scanOrEnd always receptionOver receivedIn
-    receivedFor taught taughtBy onEntries handled leaveHandled leaveRequested acceptsLeave changed after left leaveAnnounced leftFor continuing
+unfolding startJoin startOrRefusal bad strayIndex joinBy rejoinStarted invalid tryRemembered trying negotiationReset finish moved barred parentIn parentOf
+    transmissionOver sentIn requestSent pollOn answeredBy pollParent polling unanswered tryFailed scanOrEnd otherOrRefusal receptionOver receivedIn
+    receivedFor taught taughtBy onEntries handled leaveHandled leaveRequested acceptsLeave changed after afterLeave leaveAnnounced leftFor continuing
     scanned scanListed scanFound rejoinHeard heard neighborsOf neighborBy entryOf present potentialParent chosen candidates eligible linkCost newest
     newer flatMap tryNext tryCandidate nextIn nextIndex skipped taking adoptedNext adopted marked
 bound-reached = (lost, request, calls, refl, refl)

@@ -5,13 +5,12 @@ use mathlib.Core.Path.{_≡_}
 use mathlib.Core.Bool.{Bool, true, false, cond, not, _&&_}
 use mathlib.Core.List.{List, [], _∷_}
 use Rattle.management.specs.declared.NlmeJoinRequest.{NlmeJoinRequest}
+use Rattle.operation.specs.Operation.{isRefused}
 use Rattle.operation.specs.declared.Purpose.{Purpose}
 use Rattle.operation.specs.declared.Purpose.the-variants.{RejoinResponse, SinglePoll, SingleReceive, TimeoutResponse}
 use Rattle.operation.specs.declared.Phase.{Phase}
 use Rattle.operation.specs.declared.Phase.the-variants as phase
-use Rattle.operation.specs.declared.Step.{Step}
-use Rattle.operation.specs.declared.Step.the-variants.{Refused, Ask, Discovered, DiscoveryFailed, Joined, Sent, Polled, NegotiationOver, KeepaliveOver, Expired, LeaveTaken, StatusTaken}
-use Rattle.node.specs.Runs.{Idle, Call, discovery, join, send, poll, receive, timeout, scan, association, transmission, reception, elapsed, takeLeave, takeStatus, answer}
+use Rattle.node.specs.Runs.{NoneUnderWay, Call, discovery, join, send, poll, receive, timeout, scan, association, transmission, reception, elapsed, takeLeave, takeStatus, answer}
 use Rattle.node.specs.declared.State.{State}
 use Rattle.node.specs.declared.Answer.{Answer}
 
@@ -49,20 +48,6 @@ isOutcome (elapsed ms) = false
 isOutcome takeLeave = false
 isOutcome takeStatus = false
 
-abbrev pub isRefused : Step → Bool
-isRefused (Refused k) = true
-isRefused (Ask r) = false
-isRefused Discovered = false
-isRefused DiscoveryFailed = false
-isRefused (Joined c) = false
-isRefused (Sent a) = false
-isRefused (Polled a) = false
-isRefused (NegotiationOver a) = false
-isRefused (KeepaliveOver a) = false
-isRefused (Expired e) = false
-isRefused (LeaveTaken i) = false
-isRefused (StatusTaken i) = false
-
 abbrev pub accepted : Call → Answer → Bool
 accepted c a = not (isRefused (a .step)) && isOutcome c
 
@@ -78,8 +63,8 @@ most = 17 * 41 + 1
 
 -- the claim: from any state with no operation under way, after any join request (after one that starts no rejoin nothing is counted), whatever is called
 abbrev pub RejoinBound : Type 0
-RejoinBound = (s : State) → Idle s → (r : NlmeJoinRequest) → (cs : List Call) → outcomes (answer s (join r) .state) cs ≤ most
+RejoinBound = (s : State) → NoneUnderWay s → (r : NlmeJoinRequest) → (cs : List Call) → outcomes (answer s (join r) .state) cs ≤ most
 
 -- no smaller number would do: some rejoin uses as many
 abbrev pub BoundReached : Type 0
-BoundReached = (s : State) × (r : NlmeJoinRequest) × (cs : List Call) × Idle s × (outcomes (answer s (join r) .state) cs ≡ most)
+BoundReached = (s : State) × (r : NlmeJoinRequest) × (cs : List Call) × NoneUnderWay s × (outcomes (answer s (join r) .state) cs ≡ most)

@@ -45,11 +45,11 @@ use Rattle.join.specs.Join.{joinStarted, associated}
 use Rattle.join.specs.declared.AssociationOutcome.{AssociationOutcome}
 use Rattle.rejoin.specs.Rejoin.{tryNext, pollOn, requestSent}
 use Rattle.node.specs.Looks.{withControl, entries, parent, tried, next, moved, barred, finish}
-use Rattle.node.specs.Refusals.{refuse, strayIndex, bad, starting, ending, always}
+use Rattle.node.specs.Refusals.{refuse, strayIndex, bad, startOrRefusal, outcomeOrRefusal, otherOrRefusal}
 use Rattle.steps.specs.Steps.{continuing}
 use Rattle.receptions.specs.Receptions.{noData}
 use Rattle.node.specs.Calls.{withNode, startDiscovery, chosen, withChosen, joinFrom, joinBy, startJoin, startSend, startPoll, startReceive, startTimeout, heard, scanFailed, rejoinAmong, rejoinHeard, discovered, noConfirm, scanFound, scanListed, scanned, associationOver, goOn, taughtOn, receivedFor, receivedIn, receptionOver, sentIn, transmissionOver, saying, tick, takeLeaveIndication, takeStatusIndication}
-use Rattle.node.specs.Runs.{Idle, Call, discovery, join, send, poll, receive, timeout, scan, association, transmission, reception, elapsed, takeLeave, takeStatus, answer}
+use Rattle.node.specs.Runs.{NoneUnderWay, Call, discovery, join, send, poll, receive, timeout, scan, association, transmission, reception, elapsed, takeLeave, takeStatus, answer}
 use Rattle.node.specs.declared.State.{State}
 use Rattle.node.specs.declared.Answer.{Answer}
 use Rattle.node.specs.declared.ScanOutcome.{ScanOutcome}
@@ -148,14 +148,14 @@ module _ (n : ℕ) where
   unfolding refuse
   refuse-good k r = good r refl refl refl refl
 
-  starting-good : {s t : State} {a b : Answer} → Agree n s t → (Idle s → Good n a b) → Good n (starting s a) (starting t b)
-  unfolding starting
+  starting-good : {s t : State} {a b : Answer} → Agree n s t → (NoneUnderWay s → Good n a b) → Good n (startOrRefusal s a) (startOrRefusal t b)
+  unfolding startOrRefusal
   starting-good {s} {t} r f =
       both-cases (Good n) (bad s) (bad t) (agree-bad r) (λ _. refuse-good 5 r)
       (λ _. both-cases (Good n) (isIdle (s .control .operation .phase)) (isIdle (t .control .operation .phase)) (ap (λ (c : Control). isIdle (c .operation .phase)) (agree-control r)) f (λ _. refuse-good 1 r))
 
-  always-good : {s t : State} {a b : Answer} → Agree n s t → Good n a b → Good n (always s a) (always t b)
-  unfolding always
+  always-good : {s t : State} {a b : Answer} → Agree n s t → Good n a b → Good n (otherOrRefusal s a) (otherOrRefusal t b)
+  unfolding otherOrRefusal
   always-good {s} {t} r h = both-cases (Good n) (bad s) (bad t) (agree-bad r) (λ _. refuse-good 5 r) (λ _. h)
 
   -- the control part is replaced
@@ -458,7 +458,7 @@ scan-self n o =
 module _ (n : ℕ) (some : n ≡ 0 → ⊥) {s t : State} where
   -- the same call on states that are alike
   alike-good : (a : Alike n s t) → (live (s .control .operation .phase) ≡ true → Tries n s t) → On n (s .control) → (c : Call) → Later n s c → Good n (answer s c) (answer t c)
-  unfolding startDiscovery startJoin startSend startPoll startReceive startTimeout associationOver transmissionOver receptionOver tick takeLeaveIndication takeStatusIndication ending
+  unfolding startDiscovery startJoin startSend startPoll startReceive startTimeout associationOver transmissionOver receptionOver tick takeLeaveIndication takeStatusIndication outcomeOrRefusal
   alike-good a k on (discovery r) w = starting-good n (alike a k) (not-both s w)
   alike-good a k on (join r) w = starting-good n (alike a k) (λ i. joinBy-good n some a (r .«rejoin_network») r (w i))
   alike-good a k on (send x y) w = starting-good n (alike a k) (not-both s w)

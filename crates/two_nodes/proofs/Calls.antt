@@ -24,11 +24,11 @@ use Rattle.operation.specs.declared.Phase.{Phase}
 use Rattle.operation.specs.declared.Phase.the-variants as phase
 use Rattle.operation.specs.declared.Decision.{Decision}
 use Rattle.node.specs.Looks.{parent, next, tried, finish}
-use Rattle.node.specs.Refusals.{refuse, bad, starting, ending, always}
+use Rattle.node.specs.Refusals.{refuse, bad, startOrRefusal, outcomeOrRefusal, otherOrRefusal}
 use Rattle.steps.specs.Steps.{continuing}
 use Rattle.receptions.specs.Receptions.{noData}
 use Rattle.node.specs.Calls.{withNode, startDiscovery, joinFrom, joinBy, startJoin, startSend, startPoll, startReceive, startTimeout, heard, scanFailed, rejoinHeard, discovered, scanFound, scanListed, scanned, associationOver, goOn, changed, after, processed, taughtOn, receivedFor, receivedIn, receptionOver, sentIn, transmissionOver, tick, takeLeaveIndication, takeStatusIndication}
-use Rattle.node.specs.Runs.{Idle, Call, discovery, join, send, poll, receive, timeout, scan, association, transmission, reception, elapsed, takeLeave, takeStatus, answer}
+use Rattle.node.specs.Runs.{NoneUnderWay, Call, discovery, join, send, poll, receive, timeout, scan, association, transmission, reception, elapsed, takeLeave, takeStatus, answer}
 use Rattle.node.specs.declared.State.{State}
 use Rattle.node.specs.declared.Answer.{Answer}
 use Rattle.node.specs.declared.ScanOutcome.{ScanOutcome}
@@ -43,7 +43,7 @@ use Rattle.two_nodes.proofs.Decisions.{OnPurpose, OnPhase, On, OnD, fai
 -- after the first start, the only start with no operation under way is a join of the network n
 abbrev pub Later : ℕ → State → Call → Type 0
 Later n s (discovery r) = Busy s
-Later n s (join r) = Idle s → Joins n (r .«rejoin_network») r
+Later n s (join r) = NoneUnderWay s → Joins n (r .«rejoin_network») r
 Later n s (send a b) = Busy s
 Later n s poll = Busy s
 Later n s receive = Busy s
@@ -65,7 +65,7 @@ pub never : {A : Type 0} (b : Bool) → b ≡ false → b ≡ true → A
 never true p q = absurd (false≢true (sym p))
 never false p q = absurd (false≢true q)
 
-pub not-both : {A : Type 0} (s : State) → Busy s → Idle s → A
+pub not-both : {A : Type 0} (s : State) → Busy s → NoneUnderWay s → A
 not-both s b i = never (isIdle (s .control .operation .phase)) b i
 
 pub later : {n : ℕ} {g h : Stage} {s : State} {c : Call} → Begun g → Allowed n g s c h → Later n s c × Begun h
@@ -158,12 +158,12 @@ module _ (n : ℕ) where
   unfolding refuse
   refuse-on k s on = record { kept = on }
 
-  pub starting-on : (s : State) → On n (s .control) → {a : Answer} → (Idle s → OnA n a) → OnA n (starting s a)
-  unfolding starting
+  pub starting-on : (s : State) → On n (s .control) → {a : Answer} → (NoneUnderWay s → OnA n a) → OnA n (startOrRefusal s a)
+  unfolding startOrRefusal
   starting-on s on f = by-cases (OnA n) (bad s) (λ _. refuse-on 5 s on) (by-cases (OnA n) (isIdle (s .control .operation .phase)) f (refuse-on 1 s on))
 
-  always-on : (s : State) → On n (s .control) → {a : Answer} → OnA n a → OnA n (always s a)
-  unfolding always
+  always-on : (s : State) → On n (s .control) → {a : Answer} → OnA n a → OnA n (otherOrRefusal s a)
+  unfolding otherOrRefusal
   always-on s on h = by-cases (OnA n) (bad s) (λ _. refuse-on 5 s on) h
 
   -- a join; an association that is started needs no id, and no rejoin is started
@@ -251,7 +251,7 @@ module _ (n : ℕ) where
   sentIn-on (phase.Reception p) ok s e on = refuse-on 2 s on
 
   pub step-on : (s : State) → On n (s .control) → (c : Call) → Later n s c → OnA n (answer s c)
-  unfolding startDiscovery startJoin startSend startPoll startReceive startTimeout associationOver transmissionOver receptionOver tick takeLeaveIndication takeStatusIndication ending
+  unfolding startDiscovery startJoin startSend startPoll startReceive startTimeout associationOver transmissionOver receptionOver tick takeLeaveIndication takeStatusIndication outcomeOrRefusal
   step-on s on (discovery r) w = starting-on s on (not-both s w)
   step-on s on (join r) w = starting-on s on (λ i. joinBy-on (r .«rejoin_network») r s (w i))
   step-on s on (send a b) w = starting-on s on (not-both s w)

@@ -27,7 +27,7 @@ use Rattle.operation.specs.declared.RadioRequest.the-variants.{Scan, Associate,
 use Rattle.operation.specs.declared.Step.{Step}
 use Rattle.operation.specs.declared.Step.the-variants.{Refused, Ask, Discovered, Joined, StatusTaken}
 use Rattle.node.specs.Looks.{entries, moved, barred, finish}
-use Rattle.node.specs.Refusals.{refuse, strayIndex, bad, starting, always}
+use Rattle.node.specs.Refusals.{refuse, strayIndex, bad, startOrRefusal, otherOrRefusal}
 use Rattle.steps.specs.Steps.{continuing}
 use Rattle.node.specs.Calls.{startDiscovery, chosen, joinFrom, joinBy, startJoin, heard, rejoinHeard, discovered, scanFound, scanListed, scanned, changed, after, receivedFor, receivedIn, receptionOver, sentIn, transmissionOver, takeStatusIndication}
 use Rattle.tries.specs.Tries.{parentIn, triedIndex, skipped, nextIndex, nextIn, strays, taking, adoptedNext}

@@ -14,9 +14,9 @@ use Rattle.operation.specs.declared.Phase.{Phase}
 use Rattle.operation.specs.declared.Phase.the-variants as phase
 use Rattle.join.specs.declared.AssociationOutcome.{AssociationOutcome}
 use Rattle.node.specs.Looks.{parent, finish}
-use Rattle.node.specs.Refusals.{refuse, bad, ending, always}
+use Rattle.node.specs.Refusals.{refuse, bad, outcomeOrRefusal, otherOrRefusal}
 use Rattle.node.specs.Calls.{startDiscovery, joinBy, startJoin, noConfirm, scanned, associationOver, receivedIn, receptionOver, sentIn, transmissionOver, tick, takeLeaveIndication, takeStatusIndication}
-use Rattle.node.specs.Runs.{Idle, Call, answer}
+use Rattle.node.specs.Runs.{NoneUnderWay, Call, answer}
 use Rattle.node.specs.declared.State.{State}
 use Rattle.node.specs.declared.Answer.{Answer}
 use Rattle.node.specs.declared.ScanOutcome.{ScanOutcome}
@@ -40,9 +40,9 @@ idle-is (phase.LeaveSend p r) h = absurd (false≢true h)
 idle-is (phase.Reception p) h = absurd (false≢true h)
 
 record Still (a : Answer) : Type 0 where
-  idle : Idle (a .state)
+  idle : NoneUnderWay (a .state)
 
-module _ (s : State) (i : Idle s) where
+module _ (s : State) (i : NoneUnderWay s) where
   abbrev quiet : s .control .operation .phase ≡ phase.Idle
   quiet = idle-is (s .control .operation .phase) i
 
@@ -50,8 +50,8 @@ module _ (s : State) (i : Idle s) where
   unfolding refuse
   refuse-still k = record { idle = i }
 
-  always-still : {a : Answer} → Still a → Still (always s a)
-  unfolding always
+  always-still : {a : Answer} → Still a → Still (otherOrRefusal s a)
+  unfolding otherOrRefusal
   always-still h = by-cases Still (bad s) (λ _. refuse-still 5) h
 
   -- a scan that nobody awaits is not looked at
@@ -63,17 +63,17 @@ module _ (s : State) (i : Idle s) where
   scan-still o = subst⁻¹ (λ (a : ScanAnswer). Still (a .answer)) (scan-refused o) (by-cases (λ (a : ScanAnswer). Still (a .answer)) (bad s) (λ _. refuse-still 5) (refuse-still 2))
 
   association-still : (o : AssociationOutcome) → Still (associationOver o s)
-  unfolding associationOver ending
+  unfolding associationOver outcomeOrRefusal
   association-still o = rw (ap awaitsAssociation quiet) (by-cases Still (bad s) (λ _. refuse-still 5) (refuse-still 2))
 
 module _ (n : ℕ) where
   -- a stage with what holds of the state there
   abbrev Then : Stage → State → Type 0
-  Then begins s = Idle s
+  Then begins s = NoneUnderWay s
   Then after-discovery s = On n (s .control)
   Then closed s = On n (s .control)
 
-  on-idle : (s : State) → Idle s → On n (s .control)
+  on-idle : (s : State) → NoneUnderWay s → On n (s .control)
   on-idle s i = subst⁻¹ (λ (p : Phase). OnPhase n p (s .control .operation .«extended_pan_id» .0)) (quiet s i) tt
 
   rejoins : (k : RejoinNetwork) (r : NlmeJoinRequest) (s : State) → Begins n k r s → OnA n (joinBy k r s)
@@ -83,7 +83,7 @@ module _ (n : ℕ) where
   rejoins Orphan r s w = absurd w
   rejoins ChannelChange r s w = absurd w
 
-  first : {h : Stage} {s : State} {c : Call} → Idle s → Allowed n begins s c h → Then h (answer s c .state)
+  first : {h : Stage} {s : State} {c : Call} → NoneUnderWay s → Allowed n begins s c h → Then h (answer s c .state)
   unfolding startDiscovery startJoin transmissionOver receptionOver tick takeLeaveIndication takeStatusIndication finish sentIn receivedIn
   first {s = s} i (begin-discovery r) = starting-on n s (on-idle s i) (λ _. record { kept = tt }) .kept
   first {s = s} i (begin-rejoin r w) = starting-on n s (on-idle s i) (λ _. rejoins (r .«rejoin_network») r s w) .kept
@@ -101,7 +101,7 @@ module _ (n : ℕ) where
   first {s = s} i leave-taken = always-still s i (record { idle = i }) .idle
   first {s = s} i status-taken = always-still s i (record { idle = i }) .idle
 
-  first-same : {h : Stage} {s : State} {c d : Call} → Idle s → AlikeCall n c d → Allowed n begins s c h → answer s c ≡ answer s d
+  first-same : {h : Stage} {s : State} {c d : Call} → NoneUnderWay s → AlikeCall n c d → Allowed n begins s c h → answer s c ≡ answer s d
   first-same i (same c) w = refl
   first-same {s = s} i (scans {o = o} {p = p} h) w = ap (λ (a : ScanAnswer). a .answer) (scan-refused s i o ∙ sym (scan-refused s i p))
 
@@ -110,7 +110,7 @@ module _ (n : ℕ) where
 module _ (n : ℕ) (some : n ≡ 0 → ⊥) where
   -- what two nodes are to each other: equal and idle, or after the first start in agreement
   data At : Stage → State → State → Type 0 where
-    idle-at : {s t : State} → s ≡ t → Idle s → At begins s t
+    idle-at : {s t : State} → s ≡ t → NoneUnderWay s → At begins s t
     begun-at : {g : Stage} {s t : State} → Begun g → Agree n s t → On n (s .control) → At g s t
 
   at-first : (g : Stage) {s t : State} → s ≡ t → Then n g s → At g s t

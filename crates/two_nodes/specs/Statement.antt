@@ -21,7 +21,7 @@ use Rattle.operation.specs.declared.Step.{Step}
 use Rattle.join.specs.declared.AssociationOutcome.{AssociationOutcome}
 use Rattle.rejoin.specs.Rejoin.{resolved}
 use Rattle.node.specs.Looks.{parent}
-use Rattle.node.specs.Runs.{Call, Idle, discovery, join, send, poll, receive, timeout, scan, association, transmission, reception, elapsed, takeLeave, takeStatus, answer}
+use Rattle.node.specs.Runs.{Call, NoneUnderWay, discovery, join, send, poll, receive, timeout, scan, association, transmission, reception, elapsed, takeLeave, takeStatus, answer}
 use Rattle.node.specs.declared.State.{State}
 use Rattle.node.specs.declared.Answer.{Answer}
 use Rattle.node.specs.declared.ScanOutcome.{ScanOutcome}
@@ -123,7 +123,7 @@ Joins n ChannelChange r = r .«extended_pan_id» .0 ≡ n
 pub data Allowed (n : ℕ) : Stage → State → Call → Stage → Type 0 where
   begin-discovery : {s : State} (r : ScanRange) → Allowed n begins s (discovery r) after-discovery
   begin-rejoin : {s : State} (r : NlmeJoinRequest) → Begins n (r .«rejoin_network») r s → Allowed n begins s (join r) closed
-  join-after : {s : State} (r : NlmeJoinRequest) → Idle s → Joins n (r .«rejoin_network») r → Allowed n after-discovery s (join r) closed
+  join-after : {s : State} (r : NlmeJoinRequest) → NoneUnderWay s → Joins n (r .«rejoin_network») r → Allowed n after-discovery s (join r) closed
   busy-discovery : {g : Stage} {s : State} (r : ScanRange) → Busy s → Allowed n g s (discovery r) g
   busy-join : {g : Stage} {s : State} (r : NlmeJoinRequest) → Busy s → Allowed n g s (join r) g
   busy-send : {g : Stage} {s : State} (a : ShortAddress) (b : Bool) → Busy s → Allowed n g s (send a b) g
@@ -145,4 +145,4 @@ pub data Listed (n : ℕ) : Stage → State → List Call → Type 0 where
 -- the claim: for a non-zero network n, a state with no operation under way, and two lists that differ in other networks' beacons alone
 abbrev pub TwoNodes : Type 0
 TwoNodes =
-    (n : ℕ) → (n ≡ 0 → ⊥) → (s : State) → Idle s → (cs ds : List Call) → AlikeCalls n cs ds → Listed n begins s cs → run s cs ≡ run s ds
+    (n : ℕ) → (n ≡ 0 → ⊥) → (s : State) → NoneUnderWay s → (cs ds : List Call) → AlikeCalls n cs ds → Listed n begins s cs → run s cs ≡ run s ds

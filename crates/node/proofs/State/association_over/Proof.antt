@@ -1,18 +1,8 @@
 -- `State::association_over` meets its contract. Assumes nothing.
-use mathlib.Core.Path.{refl}
-use Rattle.operation.specs.Operation.{awaitsAssociation}
-use Rattle.node.specs.Refusals.{ending}
 use Rattle.node.specs.Calls.{associationOver}
-use Rattle.node.proofs.Guards.{guarded}
 use borrow.Author.Needs.{needs}
 use Rattle.node.proofs.State.association_over.Statement.{statement}
 use Rattle.node.proofs.State.association_over.Tie as tie
-
-phase-requires : tie.Need-phase-requires
-phase-requires c κs = search needs
-
-awaits-association-requires : tie.Need-awaits-association-requires
-awaits-association-requires c κs = search needs
 
 tried-requires : tie.Need-tried-requires
 tried-requires c κs = search needs
@@ -23,25 +13,19 @@ next-requires c κs = search needs
 association-over-requires : tie.Need-association-over-requires
 association-over-requires c κs = search needs
 
-refusal-requires : tie.Need-refusal-requires
-refusal-requires c κs = search needs
-
-closed-requires : tie.Need-closed-requires
-closed-requires c κs = search needs
+ending-requires : tie.Need-ending-requires
+ending-requires c κs = search needs
 
 returns : tie.Need-returns
-unfolding associationOver ending
-returns c = let a = c .before .before .before .before .before .before .before .args in rw (c .closed .ensures, c .before .refusal .ensures, c .before .before .association-over .ensures, c .before .before .before .next .ensures, c .before .before .before .before .tried .ensures, c .before .before .before .before .before .awaits-association .ensures, c .before .before .before .before .before .before .phase .ensures) (guarded (a .self) (awaitsAssociation (a .self .control .operation .phase)) 2 refl refl)
+unfolding associationOver
+returns c = rw (c .ending .ensures, c .before .association-over .ensures, c .before .before .next .ensures, c .before .before .before .tried .ensures)
 
 pub association-over-spec : {M : Type 1} → statement M
 association-over-spec =
     tie.close
     (tie.spec
-    phase-requires
-    awaits-association-requires
     tried-requires
     next-requires
     association-over-requires
-    refusal-requires
-    closed-requires
+    ending-requires
     returns)

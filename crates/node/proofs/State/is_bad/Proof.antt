@@ -1,9 +1,8 @@
 -- `State::is_bad` meets its contract. Assumes nothing.
 use mathlib.Core.Path.{sym, ap, _∙_}
 use mathlib.Core.Bool.{Bool, _&&_}
-use borrow.Author.Tests.{lt-ltb, le-ltb, not-true, not-false}
+use borrow.Author.Tests.{lt-ltb, le-ltb, eq-eqb, ne-eqb}
 use Rattle.tries.specs.Tries.{strays}
-use Rattle.operation.specs.Operation.{awaitsAssociation}
 use Rattle.node.specs.Refusals.{bad, strayIndex}
 use borrow.Author.Needs.{needs}
 use Rattle.node.proofs.State.is_bad.Statement.{statement}
@@ -29,18 +28,15 @@ returns-5 : tie.Need-returns-5
 unfolding bad
 returns-5 c = let s = c .before .before .before .before .before .before .before .before .before .before .args .self in rw (le-ltb 16 (s .table .count) (c .before .before .before .before .before .before .before .before .if1 .left), le-ltb 16 (s .control .nlme .«transmit_failures» .count) (c .before .before .before .before .before .before .if2 .left), le-ltb 16 (s .candidates .list .count) (c .before .before .before .before .if3 .left), le-ltb 16 (s .candidates .taken) (c .before .before .if4 .left), lt-ltb 20 (s .control .operation .«polls_left») (c .if5 .taken))
 
-phase-requires : tie.Need-phase-requires
-phase-requires c κs = search needs
-
-awaits-association-requires : tie.Need-awaits-association-requires
-awaits-association-requires c κs = search needs
+awaited-requires : tie.Need-awaited-requires
+awaited-requires c κs = search needs
 
 returns-6 : tie.Need-returns-6
 unfolding bad strayIndex
 returns-6 c =
-    let s = c .before .before .before .before .before .before .before .before .before .before .before .before .before .args .self in
-    rw (le-ltb 16 (s .table .count) (c .before .before .before .before .before .before .before .before .before .before .before .if1 .left), le-ltb 16 (s .control .nlme .«transmit_failures» .count) (c .before .before .before .before .before .before .before .before .before .if2 .left), le-ltb 16 (s .candidates .list .count) (c .before .before .before .before .before .before .before .if3 .left), le-ltb 16 (s .candidates .taken) (c .before .before .before .before .before .if4 .left), le-ltb 20 (s .control .operation .«polls_left») (c .before .before .before .if5 .left))
-    (ap (λ (b : Bool). b && strays (s .table .count) (s .candidates)) (sym (sym (c .before .awaits-association .ensures ∙ ap awaitsAssociation (c .before .before .phase .ensures)) ∙ not-true _ (c .if6 .taken))))
+    let s = c .before .before .before .before .before .before .before .before .before .before .before .before .args .self in
+    rw (le-ltb 16 (s .table .count) (c .before .before .before .before .before .before .before .before .before .before .if1 .left), le-ltb 16 (s .control .nlme .«transmit_failures» .count) (c .before .before .before .before .before .before .before .before .if2 .left), le-ltb 16 (s .candidates .list .count) (c .before .before .before .before .before .before .if3 .left), le-ltb 16 (s .candidates .taken) (c .before .before .before .before .if4 .left), le-ltb 20 (s .control .operation .«polls_left») (c .before .before .if5 .left))
+    (ap (λ (b : Bool). b && strays (s .table .count) (s .candidates)) (sym (ne-eqb _ _ (λ e. c .if6 .taken (c .before .awaited .ensures ∙ e)))))
 
 strays-requires : tie.Need-strays-requires
 strays-requires c κs = search needs
@@ -48,9 +44,9 @@ strays-requires c κs = search needs
 returns-7 : tie.Need-returns-7
 unfolding bad strayIndex
 returns-7 c =
-    let s = c .before .before .before .before .before .before .before .before .before .before .before .before .before .before .args .self in
-    rw (le-ltb 16 (s .table .count) (c .before .before .before .before .before .before .before .before .before .before .before .before .if1 .left), le-ltb 16 (s .control .nlme .«transmit_failures» .count) (c .before .before .before .before .before .before .before .before .before .before .if2 .left), le-ltb 16 (s .candidates .list .count) (c .before .before .before .before .before .before .before .before .if3 .left), le-ltb 16 (s .candidates .taken) (c .before .before .before .before .before .before .if4 .left), le-ltb 20 (s .control .operation .«polls_left») (c .before .before .before .before .if5 .left))
-    (c .strays .ensures ∙ ap (λ (b : Bool). b && strays (s .table .count) (s .candidates)) (sym (sym (c .before .before .awaits-association .ensures ∙ ap awaitsAssociation (c .before .before .before .phase .ensures)) ∙ not-false _ (c .before .if6 .left))))
+    let s = c .before .before .before .before .before .before .before .before .before .before .before .before .before .args .self in
+    rw (le-ltb 16 (s .table .count) (c .before .before .before .before .before .before .before .before .before .before .before .if1 .left), le-ltb 16 (s .control .nlme .«transmit_failures» .count) (c .before .before .before .before .before .before .before .before .before .if2 .left), le-ltb 16 (s .candidates .list .count) (c .before .before .before .before .before .before .before .if3 .left), le-ltb 16 (s .candidates .taken) (c .before .before .before .before .before .if4 .left), le-ltb 20 (s .control .operation .«polls_left») (c .before .before .before .if5 .left))
+    (c .strays .ensures ∙ ap (λ (b : Bool). b && strays (s .table .count) (s .candidates)) (sym (eq-eqb _ _ (sym (c .before .before .awaited .ensures) ∙ c .before .if6 .left))))
 
 pub is-bad-spec : {M : Type 1} → statement M
 is-bad-spec =
@@ -61,8 +57,7 @@ is-bad-spec =
     returns-3
     returns-4
     returns-5
-    phase-requires
-    awaits-association-requires
+    awaited-requires
     returns-6
     strays-requires
     returns-7)

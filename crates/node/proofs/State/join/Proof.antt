@@ -1,7 +1,7 @@
 -- `State::join` meets its contract. Assumes nothing.
 use mathlib.Core.Path.{ap}
 use Rattle.node.specs.declared.Answer.{Answer}
-use Rattle.node.specs.Refusals.{starting}
+use Rattle.node.specs.Refusals.{startOrRefusal}
 use Rattle.node.specs.Calls.{startJoin}
 use Rattle.node.proofs.Closing.{join-is}
 use borrow.Author.Needs.{needs}
@@ -28,7 +28,7 @@ starting-requires c κs = search needs
 
 returns : tie.Need-returns
 unfolding startJoin
-returns c = let a = c .before .before .before .before .before .before .args in rw (c .starting .ensures, c .before .join-asked .ensures, c .before .before .next .ensures, c .before .before .before .parent .ensures, c .before .before .before .before .with-candidates .ensures, c .before .before .before .before .before .for-join .ensures) (ap (λ (x : Answer). starting (a .self) x) (join-is (a .request .«rejoin_network») (a .request) (a .self)))
+returns c = let a = c .before .before .before .before .before .before .args in rw (c .starting .ensures, c .before .join-asked .ensures, c .before .before .next .ensures, c .before .before .before .parent .ensures, c .before .before .before .before .with-candidates .ensures, c .before .before .before .before .before .for-join .ensures) (ap (λ (x : Answer). startOrRefusal (a .self) x) (join-is (a .request .«rejoin_network») (a .request) (a .self)))
 
 pub join-spec : {M : Type 1} → statement M
 join-spec =

@@ -1,17 +1,7 @@
 -- `State::nothing_received` meets its contract. Assumes nothing.
-use mathlib.Core.Path.{refl}
-use Rattle.operation.specs.Operation.{awaitsReception}
-use Rattle.node.specs.Refusals.{ending}
-use Rattle.node.proofs.Guards.{guarded}
 use borrow.Author.Needs.{needs}
 use Rattle.node.proofs.State.nothing_received.Statement.{statement}
 use Rattle.node.proofs.State.nothing_received.Tie as tie
-
-phase-requires : tie.Need-phase-requires
-phase-requires c κs = search needs
-
-awaits-reception-requires : tie.Need-awaits-reception-requires
-awaits-reception-requires c κs = search needs
 
 parent-requires : tie.Need-parent-requires
 parent-requires c κs = search needs
@@ -22,25 +12,18 @@ next-requires c κs = search needs
 reception-over-requires : tie.Need-reception-over-requires
 reception-over-requires c κs = search needs
 
-refusal-requires : tie.Need-refusal-requires
-refusal-requires c κs = search needs
-
-closed-requires : tie.Need-closed-requires
-closed-requires c κs = search needs
+ending-requires : tie.Need-ending-requires
+ending-requires c κs = search needs
 
 returns : tie.Need-returns
-unfolding ending
-returns c = let a = c .before .before .before .before .before .before .before .args in rw (c .closed .ensures, c .before .refusal .ensures, c .before .before .reception-over .ensures, c .before .before .before .next .ensures, c .before .before .before .before .parent .ensures, c .before .before .before .before .before .awaits-reception .ensures, c .before .before .before .before .before .before .phase .ensures) (guarded (a .self) (awaitsReception (a .self .control .operation .phase)) 2 refl refl)
+returns c = rw (c .ending .ensures, c .before .reception-over .ensures, c .before .before .next .ensures, c .before .before .before .parent .ensures)
 
 pub nothing-received-spec : {M : Type 1} → statement M
 nothing-received-spec =
     tie.close
     (tie.spec
-    phase-requires
-    awaits-reception-requires
     parent-requires
     next-requires
     reception-over-requires
-    refusal-requires
-    closed-requires
+    ending-requires
     returns)

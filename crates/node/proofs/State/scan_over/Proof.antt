@@ -18,27 +18,12 @@ phase-requires c κs = search needs
 confirm-of-requires : tie.Need-confirm-of-requires
 confirm-of-requires c κs = search needs
 
-tables-requires : tie.Need-tables-requires
-tables-requires c κs = search needs
-
-after-scan-requires : tie.Need-after-scan-requires
-after-scan-requires c κs = search needs
-
-with-tables-requires : tie.Need-with-tables-requires
-with-tables-requires c κs = search needs
-
-next-requires : tie.Need-next-requires
-next-requires c κs = search needs
-
-scan-over-requires : tie.Need-scan-over-requires
-scan-over-requires c κs = search needs
-
-closed-requires : tie.Need-closed-requires
-closed-requires c κs = search needs
+scan-decided-requires : tie.Need-scan-decided-requires
+scan-decided-requires c κs = search needs
 
 returns : tie.Need-returns
 unfolding scanned scanListed
-returns c = let a = c .before .before .before .before .before .before .before .before .before .before .args in rw (c .closed .ensures, c .before .scan-over .ensures, c .before .before .next .ensures, c .before .before .before .with-tables .ensures, c .before .before .before .before .after-scan .ensures, c .before .before .before .before .before .tables .ensures, c .before .before .before .before .before .before .confirm-of .ensures, c .before .before .before .before .before .before .before .phase .ensures, c .before .before .before .before .before .before .before .before .scan-refusal .ensures) (scan-is (a .self .control .operation .phase) (bad (a .self)) (a .outcome .failed) (ltb 27 (a .outcome .list .count)) (ltb 16 (shortAddressed (descriptorsOf (a .outcome .list)))) (descriptorsOf (a .outcome .list)) (a .self))
+returns c = let a = c .before .before .before .before .before .args in rw (c .scan-decided .ensures, c .before .confirm-of .ensures, c .before .before .phase .ensures, c .before .before .before .scan-refusal .ensures) (scan-is (a .self .control .operation .phase) (bad (a .self)) (a .outcome .failed) (ltb 27 (a .outcome .list .count)) (ltb 16 (shortAddressed (descriptorsOf (a .outcome .list)))) (descriptorsOf (a .outcome .list)) (a .self))
 
 pub scan-over-spec : {M : Type 1} → statement M
 scan-over-spec =
@@ -47,10 +32,5 @@ scan-over-spec =
     scan-refusal-requires
     phase-requires
     confirm-of-requires
-    tables-requires
-    after-scan-requires
-    with-tables-requires
-    next-requires
-    scan-over-requires
-    closed-requires
+    scan-decided-requires
     returns)

@@ -1,6 +1,6 @@
 -- `State::tick_parent_timeout` meets its contract. Assumes nothing.
 use Rattle.node.specs.Looks.{moved, barred, finish}
-use Rattle.node.specs.Refusals.{ending, always}
+use Rattle.node.specs.Refusals.{otherOrRefusal}
 use Rattle.node.specs.Calls.{tick}
 use borrow.Author.Needs.{needs}
 use Rattle.node.proofs.State.tick_parent_timeout.Statement.{statement}
@@ -12,13 +12,13 @@ parent-requires c κs = search needs
 ticked-requires : tie.Need-ticked-requires
 ticked-requires c κs = search needs
 
-ending-requires : tie.Need-ending-requires
-ending-requires c κs = search needs
+always-requires : tie.Need-always-requires
+always-requires c κs = search needs
 
 returns : tie.Need-returns
-unfolding tick always ending finish moved barred
-returns c = rw (c .ending .ensures, c .before .ticked .ensures, c .before .before .parent .ensures)
+unfolding tick otherOrRefusal finish moved barred
+returns c = rw (c .always .ensures, c .before .ticked .ensures, c .before .before .parent .ensures)
 
 pub tick-parent-timeout-spec : {M : Type 1} → statement M
 tick-parent-timeout-spec =
-    tie.close (tie.spec parent-requires ticked-requires ending-requires returns)
+    tie.close (tie.spec parent-requires ticked-requires always-requires returns)
