@@ -278,7 +278,7 @@ joinBy-starts network.NwkRejoin r s = starts s _ (rejoinStarted-drops s r (paren
 joinBy-starts network.ChannelChange r s = invalid-starts s
 
 started : (s : State) → isIdle (s .control .operation .phase) ≡ true → (r : NlmeJoinRequest) → Starts (startJoin r s)
-unfolding startJoin starting refuse potential
+unfolding startJoin startOrRefusal refuse potential
 started s idle r =
     either Starts (bad s) (λ q. record { fits = rw q zero-le })
     (λ _. either Starts (isIdle (s .control .operation .phase)) (λ _. joinBy-starts (r .«rejoin_network») r s) (λ q. absurd (false≢true (sym q ∙ idle))))

@@ -241,7 +241,7 @@ record Computed : Type 0 where
   applied : run new (joining (foreign 1 ∷ own-7 ∷ [])) ≡ run new (joining (own-7 ∷ []))
 
 computed : Computed
-unfolding moved barred finish refuse strayIndex bad starting always startDiscovery chosen joinFrom joinBy startJoin heard rejoinHeard discovered scanFound scanListed scanned continuing changed after receivedFor receivedIn receptionOver sentIn transmissionOver takeStatusIndication parentIn triedIndex skipped nextIndex nextIn strays taking adoptedNext found parentOf onEntries learnt marked adopted retained eligible depthAt candidates newer newest potentialParent entryOf neighborBy present neighborsOf associating joinStarted statusOf invalid trying scanOrEnd tryRemembered rejoinStarted tryCandidate tryNext tryFailed responded polling pollParent answeredBy pollOn requestSent taughtBy taught rejoinResponded neighborLeft leaveHandled handled negotiationReset commandHeader linkCost shown flatMap
+unfolding moved barred finish refuse strayIndex bad startOrRefusal otherOrRefusal startDiscovery chosen joinFrom joinBy startJoin heard rejoinHeard discovered scanFound scanListed scanned continuing changed after receivedFor receivedIn receptionOver sentIn transmissionOver takeStatusIndication parentIn triedIndex skipped nextIndex nextIn strays taking adoptedNext found parentOf onEntries learnt marked adopted retained eligible depthAt candidates newer newest potentialParent entryOf neighborBy present neighborsOf associating joinStarted statusOf invalid trying scanOrEnd tryRemembered rejoinStarted tryCandidate tryNext tryFailed responded polling pollParent answeredBy pollOn requestSent taughtBy taught rejoinResponded neighborLeft leaveHandled handled negotiationReset commandHeader linkCost shown flatMap
 computed =
     record {
       joins-past = refl;
