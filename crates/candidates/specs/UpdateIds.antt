@@ -1,10 +1,10 @@
 -- The newest update id of a network (01, "Candidate list"; Zigbee 3.6.1.4.1.1, where the id is a counter that wraps back to 0).
 use Prim.Native.Nat.{ℕ, _+_, _-_, _%_}
 use mathlib.Core.Bool.{Bool, true, false, cond, not, _&&_}
-use mathlib.Core.List.{List}
+use mathlib.Core.List.{List, foldl}
 use lib.Dec.{eqb, ltb}
 use lib.IntN.{ℤ, pos, negsuc}
-use Rattle.lists.specs.Lists.{foldl, select}
+use Rattle.lists.specs.Lists.{select}
 use Rattle.nib.specs.declared.NwkNeighbor.{NwkNeighbor}
 use Rattle.candidates.specs.declared.Newest.{Newest}
 use Rattle.candidates.specs.declared.Newest.the-variants.{Nothing, Id}

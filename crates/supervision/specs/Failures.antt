@@ -4,7 +4,7 @@ use mathlib.Core.Bool.{Bool, true, false, cond}
 use mathlib.Core.List.{List, [], _∷_, _++_}
 use lib.Dec.{eqb, ltb, leb}
 use lib.ListN.{length, take, drop, getD, set, replicate}
-use Rattle.lists.specs.Lists.{over, firstIndex, any, changeFirst, removeFirst}
+use Rattle.lists.specs.Lists.{over, firstIndex, some, changeFirst, removeFirst}
 use Rattle.nib.specs.declared.ShortAddress.{ShortAddress}
 use Rattle.supervision.specs.declared.TransmitFailure.{TransmitFailure}
 use Rattle.supervision.specs.declared.TransmitFailures.{TransmitFailures}
@@ -50,7 +50,7 @@ added a l = roomy l ++ (record { address = a; count = 1 } ∷ [])
 unfoldable pub recorded : TransmitFailures → ShortAddress → Recorded
 recorded f a =
     record {
-      failures = failuresOf (cond (any (ofAddress a) (pairsOf f)) (changeFirst (ofAddress a) counted (pairsOf f)) (added a (pairsOf f)));
+      failures = failuresOf (cond (some (ofAddress a) (pairsOf f)) (changeFirst (ofAddress a) counted (pairsOf f)) (added a (pairsOf f)));
       total = oneMore (countOf a (pairsOf f));
     }
 

@@ -11,7 +11,7 @@ use Rattle.lists.proofs.Lists.{select-long}
 use Rattle.lists.proofs.Maps.{change-past}
 use Rattle.lists.proofs.Order.{All-of, All-map}
 use Rattle.lists.proofs.Indexes.{in-indexes}
-use Rattle.lists.specs.Lists.{indexesFrom, select, firstIndex, changeAt, any, All}
+use Rattle.lists.specs.Lists.{indexesFrom, select, firstIndex, changeAt, some, All}
 use Rattle.lists.proofs.Conditions.{split}
 use Rattle.lists.proofs.Ranks.{isMarked, rank, changeRanked, marked-below, rank-below, at-rank, select-select, marks-map, marks-change, select-change, ranked-past, rank-none, select-map, marked-of, indexes-rank, indexes-map, sort-same}
 use Rattle.nib.specs.Neighbors.{entryAt, blank}
