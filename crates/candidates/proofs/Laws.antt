@@ -8,14 +8,12 @@ use native.Mathlib.Omega.{arith}
 use borrow.Author.Tests.{eqb-true, eqb-false, ne-eqb, eq-eqb, leb-true, le-leb}
 use lib.Dec.{eqb}
 use lib.ListN.{length, getD}
-use Rattle.lists.specs.Lists.{indexesFrom, All, In, Sorted, Lex}
+use Rattle.lists.specs.Lists.{indexesFrom, All, In, Sorted, ByKey}
 use Rattle.lists.proofs.Order.{All-of, Sorted-map, sort-sorted}
 use Rattle.lists.proofs.Indexes.{indexes-ascend}
 use Rattle.nib.specs.Identifiers.{linkCost}
-use Rattle.nib.specs.Neighbors.{blank, entriesOf}
+use Rattle.nib.specs.Neighbors.{blank}
 use Rattle.nib.specs.declared.NwkNeighbor.{NwkNeighbor}
-use Rattle.nib.specs.declared.NeighborTable.{NeighborTable}
-use Rattle.nib.proofs.Tables.{entries-few}
 use Rattle.candidates.specs.UpdateIds.{ofNetwork, permits, potential, newest}
 use Rattle.candidates.specs.Candidates.{matches, capacity, lowCost, current, isId, eligible, Candidate, depthAt, candidates}
 use Rattle.candidates.specs.declared.Newest.{Newest}
@@ -90,7 +88,7 @@ module _ (profile : ℕ) (router permit : Bool) (n : ℕ) (es : List NwkNeighbor
   below = All-of (λ i. i < length es) (candidates profile router permit n es) (λ i h. member i .0 h .0)
 
   -- stack profile 1: by depth, lower index first among equals
-  pub by-depth : profile ≡ 1 → Sorted (Lex (depthAt es)) (candidates profile router permit n es)
+  pub by-depth : profile ≡ 1 → Sorted (ByKey (depthAt es)) (candidates profile router permit n es)
   unfolding candidates
   by-depth e = rw e (sort-sorted (depthAt es) (indexesFrom (eligible router permit n es) 0 es) (indexes-ascend (eligible router permit n es) 0 es))
 
@@ -103,13 +101,9 @@ module _ (profile : ℕ) (router permit : Bool) (n : ℕ) (es : List NwkNeighbor
   pub once : Sorted (λ x y. x ≡ y → ⊥) (candidates profile router permit n es)
   once = go (eqb profile 1) refl
     where
-      apart : (x y : ℕ) → Lex (depthAt es) x y → x ≡ y → ⊥
+      apart : (x y : ℕ) → ByKey (depthAt es) x y → x ≡ y → ⊥
       apart x y h q = ⊎-elim (λ l. omega (arith, ap (depthAt es) q)) (λ l. omega arith) h
 
       go : (b : Bool) → eqb profile 1 ≡ b → Sorted (λ x y. x ≡ y → ⊥) (candidates profile router permit n es)
-      go true e = Sorted-map (Lex (depthAt es)) (λ x y. x ≡ y → ⊥) apart (candidates profile router permit n es) (by-depth (eqb-true profile 1 e))
+      go true e = Sorted-map (ByKey (depthAt es)) (λ x y. x ≡ y → ⊥) apart (candidates profile router permit n es) (by-depth (eqb-true profile 1 e))
       go false e = Sorted-map _<_ (λ x y. x ≡ y → ⊥) (λ x y h q. omega arith) (candidates profile router permit n es) (by-index (eqb-false profile 1 e))
-
--- a table, whose array has 16 slots, has at most 16 candidates
-pub at-most-16 : (profile : ℕ) (router permit : Bool) (n : ℕ) (t : NeighborTable) → length (t .entries) ≡ 16 → length (candidates profile router permit n (entriesOf t)) ≤ 16
-at-most-16 profile router permit n t h = omega (arith, few profile router permit n (entriesOf t), entries-few t h)

@@ -1,19 +1,16 @@
--- The candidates for one network depend on the entries of that network alone. Assumes nothing.
+-- What the candidates for one network are made of depends on the entries of that network alone. Assumes nothing.
 use Prim.Native.Nat.{ℕ}
-use mathlib.Core.Path.{_≡_, refl, sym, ap, _∙_, fun-ext}
+use mathlib.Core.Path.{_≡_, refl, ap, _∙_, fun-ext}
 use mathlib.Core.Bool.{Bool, true, false, cond, _&&_}
-use mathlib.Core.List.{List, [], _∷_, map}
+use mathlib.Core.List.{List, map, foldl, foldl-map}
 use borrow.Author.Tests.{eqb-true, ne-eqb, eq-eqb}
 use lib.Dec.{eqb}
-use lib.ListN.{getD}
-use Rattle.lists.specs.Lists.{foldl, select, indexesFrom, sortBy}
+use Rattle.lists.specs.Lists.{select, sortBy}
 use Rattle.lists.proofs.Order.{map-sort}
-use Rattle.lists.proofs.Ranks.{select-map, foldl-map}
-use Rattle.lists.proofs.Indexes.{select-same, select-both, named-indexes}
-use Rattle.nib.specs.Neighbors.{blank}
+use Rattle.lists.proofs.Ranks.{select-map}
 use Rattle.nib.specs.declared.NwkNeighbor.{NwkNeighbor}
 use Rattle.candidates.specs.UpdateIds.{ofNetwork, networkOf, permits, potential, replaced, newest}
-use Rattle.candidates.specs.Candidates.{capacity, lowCost, isId, eligible, depthAt, ordered, candidates, named}
+use Rattle.candidates.specs.Candidates.{capacity, lowCost, isId, eligible, ordered}
 use Rattle.candidates.specs.declared.Newest.{Newest}
 use Rattle.candidates.specs.declared.Newest.the-variants.{Nothing}
 
@@ -33,7 +30,7 @@ unfolding newest
 newest-own permit n f part id es v h =
     ap (λ (l : List NwkNeighbor). foldl step Nothing (select has l)) h
     ∙ ap (foldl step Nothing) (select-map f has has part (networkOf n es))
-    ∙ foldl-map f step Nothing (select has (networkOf n es))
+    ∙ foldl-map f step (select has (networkOf n es)) Nothing
     ∙ ap (λ (s : Newest → NwkNeighbor → Newest). foldl s Nothing (select has (networkOf n es))) (fun-ext (λ best. fun-ext (λ e. ap (replaced best) (id e))))
   where
     has : NwkNeighbor → Bool
@@ -41,13 +38,6 @@ newest-own permit n f part id es v h =
 
     step : Newest → NwkNeighbor → Newest
     step best e = replaced best (e .«update_id»)
-
-pub same-newest : (permit : Bool) (n : ℕ) (es es′ : List NwkNeighbor) → networkOf n es ≡ networkOf n es′ → newest permit n es ≡ newest permit n es′
-same-newest permit n es es′ h = newest-own permit n (λ e. e) (λ e. refl) (λ e. refl) es′ es (h ∙ sym (kept (networkOf n es′)))
-  where
-    kept : (l : List NwkNeighbor) → map (λ e. e) l ≡ l
-    kept [] = refl
-    kept (e ∷ l) = ap (λ (z : List NwkNeighbor). e ∷ z) (kept l)
 
 -- the condition on an entry of a network, at that network's newest update id
 abbrev pub fit : Bool → Bool → Newest → NwkNeighbor → Bool
@@ -61,20 +51,3 @@ module _ (router permit : Bool) (n : ℕ) (some : n ≡ 0 → ⊥) (es : List Nw
       go : (b : Bool) → ofNetwork n e ≡ b → eligible router permit n es e ≡ b && fit router permit (newest permit n es) e
       go true h = rw (ne-eqb n 0 some, eqb-true (e .«extended_pan_id» .0) n h, eq-eqb n n refl)
       go false h = rw (ne-eqb n 0 some, h)
-
-  -- the entries that the candidate list names, from the network's own entries
-  named-own : (profile : ℕ) → named es (candidates profile router permit n es) ≡ ordered profile (λ e. e .depth) (select (fit router permit (newest permit n es)) (networkOf n es))
-  unfolding candidates depthAt
-  named-own profile =
-      map-ordered (λ i. getD es i blank) (λ e. e .depth) profile (indexesFrom (eligible router permit n es) 0 es)
-      ∙ ap (λ (z : List NwkNeighbor). ordered profile (λ e. e .depth) z)
-      (named-indexes (eligible router permit n es) blank es
-      ∙ select-same (eligible router permit n es) (λ e. ofNetwork n e && fit router permit (newest permit n es) e) eligible-own es
-      ∙ select-both (ofNetwork n) (fit router permit (newest permit n es)) es)
-
--- two tables with the same entries of network n, in the same order, name the same entries in the same order for a request of that network
-pub same-network : (profile : ℕ) (router permit : Bool) (n : ℕ) → (n ≡ 0 → ⊥) → (es es′ : List NwkNeighbor) → networkOf n es ≡ networkOf n es′ → named es (candidates profile router permit n es) ≡ named es′ (candidates profile router permit n es′)
-same-network profile router permit n some es es′ h =
-    named-own router permit n some es profile
-    ∙ (λ i. ordered profile (λ e. e .depth) (select (fit router permit (same-newest permit n es es′ h i)) (h i)))
-    ∙ sym (named-own router permit n some es′ profile)

@@ -5,7 +5,7 @@ use Prim.Native.Nat.{ℕ, _≤_}
 use mathlib.Core.Path.{_≡_}
 use mathlib.Core.Bool.{Bool, true, false, cond, _&&_, _||_}
 use mathlib.Core.Logic.{_⊎_}
-use mathlib.Core.List.{List, map}
+use mathlib.Core.List.{List}
 use lib.Dec.{eqb, leb}
 use lib.ListN.{length, take, getD, replicate}
 use Rattle.lists.specs.Lists.{indexesFrom, sortBy, over}
@@ -64,10 +64,6 @@ listOf l = record { indexes = over (replicate 16 0) l; count = length l }
 -- the indexes of a CandidateList
 abbrev pub itemsOf : CandidateList → List ℕ
 itemsOf c = take (c .count) (c .indexes)
-
--- the entries that a list of indexes names, in its order
-abbrev pub named : List NwkNeighbor → List ℕ → List NwkNeighbor
-named es l = map (λ i. getD es i blank) l
 
 -- what makes an entry a candidate, as facts: one for each condition of 01, "Candidate list". The law `eligible-is` (proofs/Laws.antt) says that
 -- `eligible` is true exactly where they hold

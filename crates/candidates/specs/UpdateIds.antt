@@ -1,10 +1,11 @@
 -- The newest update id of a network (01, "Candidate list"; Zigbee 3.6.1.4.1.1, where the id is a counter that wraps back to 0).
 use Prim.Native.Nat.{ℕ, _+_, _-_, _%_}
-use mathlib.Core.Bool.{Bool, true, false, cond, not, _&&_}
-use mathlib.Core.List.{List}
+use mathlib.Core.Bool.{Bool, true, cond, _&&_}
+use mathlib.Core.List.{List, foldl}
 use lib.Dec.{eqb, ltb}
 use lib.IntN.{ℤ, pos, negsuc}
-use Rattle.lists.specs.Lists.{foldl, select}
+use lib.Signed.{ltZ}
+use Rattle.lists.specs.Lists.{select}
 use Rattle.nib.specs.declared.NwkNeighbor.{NwkNeighbor}
 use Rattle.candidates.specs.declared.Newest.{Newest}
 use Rattle.candidates.specs.declared.Newest.the-variants.{Nothing, Id}
@@ -17,13 +18,9 @@ difference a b = (a + (256 - b)) % 256
 abbrev pub signed8 : ℕ → ℤ
 signed8 d = cond (ltb d 128) (pos d) (negsuc (255 - d))
 
-abbrev pub aboveZero : ℤ → Bool
-aboveZero (pos n) = not (eqb n 0)
-aboveZero (negsuc n) = false
-
 -- an id is newer than the best so far: their difference, read as signed, is above 0 (01, "Candidate list"; Zigbee 3.6.1.4.1.1)
 unfoldable pub newer : ℕ → ℕ → Bool
-newer id best = aboveZero (signed8 (difference id best))
+newer id best = ltZ (pos 0) (signed8 (difference id best))
 
 -- the entry is of network n
 abbrev pub ofNetwork : ℕ → NwkNeighbor → Bool

@@ -19,7 +19,8 @@ use Rattle.nib.proofs.Tables.{push-of}
 use Rattle.mlme.specs.declared.Address.{Address}
 use Rattle.mlme.specs.declared.Address.the-variants.{Short, Extended}
 use Rattle.mlme.specs.declared.PanDescriptor.{PanDescriptor}
-use Rattle.discovery.specs.Discovery.{entryOf, neighborBy, neighborOf, present, neighborsOf, isShort, shortAddressed, beaconOf, slotOf, placedIn, countedIn}
+use Rattle.discovery.specs.Discovery.{entryOf, neighborBy, neighborOf, present, neighborsOf, isShort, shortAddressed, beaconOf}
+use Rattle.discovery.specs.Steps.{slotOf, placedIn, countedIn}
 
 -- what a read past the end of the descriptors gives
 abbrev pub noDescriptor : PanDescriptor

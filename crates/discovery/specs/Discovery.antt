@@ -1,13 +1,12 @@
--- The neighbour entries and the confirm that a discovery makes from a scan's descriptors (01, "Neighbour entry"; Zigbee 3.2.2.3).
-use Prim.Native.Nat.{ℕ, _+_}
+-- The neighbour entries and the confirm that a discovery makes from a scan's descriptors (01, "Neighbour entry"; Zigbee 3.2.2.3 and 3.2.2.4).
+use Prim.Native.Nat.{ℕ}
 use mathlib.Core.Bool.{Bool, true, false, cond, _||_}
 use mathlib.Core.List.{List, [], _∷_, flatMap}
-use lib.Dec.{eqb, ltb}
+use lib.Dec.{eqb}
 use lib.ListN.{length, replicate}
 use Rattle.lists.specs.Lists.{over, select}
 use Rattle.nib.specs.Identifiers.{bit}
-use Rattle.nib.specs.declared.DeviceType.{DeviceType}
-use Rattle.nib.specs.declared.DeviceType.the-variants.{Coordinator, Router}
+use Rattle.nib.specs.Neighbors.{NONE, deviceType}
 use Rattle.nib.specs.declared.Neighbor.{Neighbor}
 use Rattle.nib.specs.declared.Neighbor.the-variants.{Absent, Entry}
 use Rattle.nib.specs.declared.NwkNeighbor.{NwkNeighbor}
@@ -18,10 +17,6 @@ use Rattle.mlme.specs.declared.Address.the-variants.{Short, Extended}
 use Rattle.mlme.specs.declared.PanDescriptor.{PanDescriptor}
 use Rattle.discovery.specs.declared.NetworkDescriptor.{NetworkDescriptor}
 use Rattle.discovery.specs.declared.NlmeNetworkDiscoveryConfirm.{NlmeNetworkDiscoveryConfirm}
-
--- the sender at 0x0000 is the coordinator; any other that sends a beacon is a router (Zigbee Table 3-63)
-unfoldable pub deviceType : ℕ → DeviceType
-deviceType address = cond (eqb address 0x0000) Coordinator Router
 
 -- potential parent: 1 if the beacon has router (bit 10) or end device (bit 15) capacity or the address is 0x0000 (01, "Neighbour entry"; Zigbee Table 3-64)
 unfoldable pub potentialParent : ℕ → ℕ → ℕ
@@ -36,7 +31,7 @@ entryOf d address =
       «device_type» = deviceType (address .0);
       «rx_on_when_idle» = false;
       «end_device_configuration» = 0;
-      relationship = 3;
+      relationship = NONE;
       lqi = d .«link_quality»;
       «outgoing_cost» = 0;
       age = 0;
@@ -60,7 +55,7 @@ neighborBy d (Extended pan address) = Absent
 abbrev pub neighborOf : PanDescriptor → Neighbor
 neighborOf d = neighborBy d (d .«coord_address»)
 
--- what there is, as a list
+-- an entry as a list of one, none as the empty list
 unfoldable pub present : Neighbor → List NwkNeighbor
 present Absent = []
 present (Entry e) = e ∷ []
@@ -82,29 +77,7 @@ shortAddressed ds = length (select (λ d. isShort (d .«coord_address»)) ds)
 abbrev pub beaconOf : ℕ → PanDescriptor → Bool
 beaconOf n d = eqb (d .«zigbee_beacon» .«extended_pan_id» .0) n
 
--- What a descriptor adds to a table with so many entries in use. No public promise uses it
-
--- the place for one entry more, the last one where the table is full
-abbrev pub slotOf : ℕ → ℕ
-slotOf count = cond (ltb count 16) count 15
-
--- what is written there, over what stood there
-abbrev written : Neighbor → NwkNeighbor → NwkNeighbor
-written Absent old = old
-written (Entry e) old = e
-
-abbrev pub placedIn : Neighbor → ℕ → NwkNeighbor → NwkNeighbor
-placedIn found count old = cond (ltb count 16) (written found old) old
-
--- how many entries there are then
-abbrev more : Neighbor → ℕ → ℕ
-more Absent count = count
-more (Entry e) count = count + 1
-
-abbrev pub countedIn : Neighbor → ℕ → ℕ
-countedIn found count = cond (ltb count 16) (more found count) count
-
--- what the confirm tells of a descriptor (Zigbee Table 3-12)
+-- what the confirm tells of a descriptor, short-addressed or not ("others are dropped from the table but stay in the confirm"; Zigbee Table 3-12)
 abbrev pub networkDescriptor : PanDescriptor → NetworkDescriptor
 networkDescriptor d =
     record {

@@ -1,1 +1,2 @@
 pub mod Discovery
+pub mod Steps

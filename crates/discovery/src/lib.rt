@@ -7,25 +7,21 @@ ghost use lib.ListN.{length, take};
 ghost use Rattle.nib.specs.Neighbors.{tableOf};
 ghost use Rattle.mlme.specs.Mlme.{descriptorsOf};
 ghost use Rattle.discovery.specs.Discovery.{
-  deviceType,
   potentialParent,
   entryOf,
   neighborOf,
   neighborsOf,
   shortAddressed,
   isShort,
-  slotOf,
-  placedIn,
-  countedIn,
   networkDescriptor,
   blankDescriptor,
   confirmOf,
 };
+ghost use Rattle.discovery.specs.Steps.{slotOf, placedIn, countedIn};
 use mlme::Address;
 use mlme::PanDescriptor;
 use mlme::PanDescriptorList;
 use mlme::StackProfile;
-use nib::DeviceType;
 use nib::ExtendedPanId;
 use nib::IeeeAddress;
 use nib::Neighbor;
@@ -55,16 +51,6 @@ pub struct NlmeNetworkDiscoveryConfirm {
     pub count: u8,
 }
 
-// The device type of a beacon's sender, by its short address.
-fn device_type_at(address: ShortAddress) -> DeviceType
-    ensures { λ r. ⌜ r ≡ deviceType (address .0) ⌝ }
-{
-    if address.0 == nib::NWK_COORDINATOR_ADDRESS {
-        return DeviceType::Coordinator;
-    }
-    DeviceType::Router
-}
-
 // Whether a beacon's sender may become the parent, as 1 or 0.
 fn potential_parent(profile: StackProfile, address: ShortAddress) -> u8
     ensures { λ r. ⌜ r ≡ potentialParent (profile .0) (address .0) ⌝ }
@@ -90,7 +76,7 @@ fn entry_from(pd: PanDescriptor, address: ShortAddress) -> NwkNeighbor
     let superframe = pd.superframe_spec;
     let extended_pan_id = beacon.extended_pan_id;
     let pan_id = pd.coord_pan_id;
-    let device_type = device_type_at(address);
+    let device_type = nib::device_type_at(address);
     NwkNeighbor {
         extended_address: IeeeAddress(0),
         network_address: address,

@@ -1,4 +1,4 @@
--- Sequence numbers of sent frames (01, "Supervision record": "Sequence numbers go up by one and wrap after 255"; Zigbee 3.3.1).
+-- Sequence numbers of sent frames (01, "Supervision record": "Sequence numbers go up by one and wrap after 255"; `next_nwk_seq` of the source).
 use Prim.Native.Nat.{ℕ, _+_, _%_}
 
 abbrev pub nextSeq : ℕ → ℕ

@@ -1,12 +1,12 @@
 -- Laws of the first element that passes a test. Assumes nothing.
 use Prim.Native.Nat.{ℕ, suc, _+_, _<_, _≤_, zero-le, suc-le-suc}
-use mathlib.Core.Path.{_≡_, refl}
+use mathlib.Core.Path.{_≡_, refl, ap}
 use mathlib.Core.Bool.{Bool, true, false, cond}
 use mathlib.Core.List.{List, [], _∷_}
 use native.Mathlib.Numerals.{add-one}
 use lib.ListN.{length, drop, getD}
 use lib.Seq.{drop-cons}
-use Rattle.lists.specs.Lists.{firstIndex, changeAt}
+use Rattle.lists.specs.Lists.{firstIndex, changeAt, changeFirst}
 
 module _ {A : Type 0} (p : A → Bool) where
   -- the first index, from what is left of the list at i
@@ -24,10 +24,11 @@ module _ {A : Type 0} (p : A → Bool) where
       go true h = zero-le
       go false h = suc-le-suc h
 
-  -- a change of the first that passes, one element at a time
-  pub first-change : (f : A → A) (x : A) (xs : List A) → changeAt (firstIndex p (x ∷ xs)) f (x ∷ xs) ≡ cond (p x) (f x ∷ xs) (x ∷ changeAt (firstIndex p xs) f xs)
-  first-change f x xs = go (p x)
+  -- to change the first that passes is to change at its place
+  pub change-first : (f : A → A) (l : List A) → changeFirst p f l ≡ changeAt (firstIndex p l) f l
+  change-first f [] = refl
+  change-first f (x ∷ xs) = go (p x) (change-first f xs)
     where
-      go : (b : Bool) → changeAt (cond b 0 (suc (firstIndex p xs))) f (x ∷ xs) ≡ cond b (f x ∷ xs) (x ∷ changeAt (firstIndex p xs) f xs)
-      go true = refl
-      go false = refl
+      go : (b : Bool) → changeFirst p f xs ≡ changeAt (firstIndex p xs) f xs → cond b (f x ∷ xs) (x ∷ changeFirst p f xs) ≡ changeAt (cond b 0 (suc (firstIndex p xs))) f (x ∷ xs)
+      go true h = refl
+      go false h = ap (λ (z : List A). x ∷ z) h

@@ -3,17 +3,13 @@ use Prim.Native.Nat.{ℕ, zero, suc, _+_, _<_, _≤_, zero-le, suc-le-suc}
 use mathlib.Core.Path.{_≡_, refl, sym, ap, _∙_}
 use mathlib.Core.Logic.{inl, inr, ⊎-elim, _↔_}
 use mathlib.Core.Bool.{Bool, true, false, cond, _&&_}
-use mathlib.Core.List.{List, [], _∷_, _++_, map}
+use mathlib.Core.List.{List, [], _∷_, _++_}
 use native.Mathlib.Nat.{add-zero, le-of-suc-le-suc, not-suc-le-zero}
 use native.Mathlib.Omega.{arith}
 use lib.ListN.{length, getD}
 use Rattle.lists.specs.Lists.{select, indexesFrom, All, In, Sorted}
 
 module _ {A : Type 0} where
-  pub select-same : (p q : A → Bool) → ((x : A) → p x ≡ q x) → (l : List A) → select p l ≡ select q l
-  select-same p q h [] = refl
-  select-same p q h (x ∷ xs) = λ i. cond (h x i) (x ∷ select-same p q h xs i) (select-same p q h xs i)
-
   pub select-both : (p q : A → Bool) (l : List A) → select (λ x. p x && q x) l ≡ select q (select p l)
   select-both p q [] = refl
   select-both p q (x ∷ xs) = go (p x) (select-both p q xs)
@@ -98,24 +94,3 @@ module _ {A : Type 0} where
       λ h. let r = in-from i 0 l h in let e : r .0 ≡ i = omega (arith, r .1) in (rw (← e) (r .2), rw (← e) (r .3)),
       λ h. let e : 0 + i ≡ i = omega arith in rw e at (from-in 0 i l (h .0) (h .1)),
     )
-
-    -- what stands at the indexes of the elements that pass is those elements
-    named-from : (f : ℕ → A) (n : ℕ) (l : List A) → ((m : ℕ) → m < length l → f (n + m) ≡ getD l m d) → map f (indexesFrom p n l) ≡ select p l
-    named-from f n [] h = refl
-    named-from f n (x ∷ xs) h = go (p x) (named-from f (suc n) xs (λ m l. ap f (shift m) ∙ h (suc m) (suc-le-suc l)))
-      where
-        shift : (m : ℕ) → suc n + m ≡ n + suc m
-        shift m = omega arith
-
-        first : f n ≡ x
-        first = ap f (sym (add-zero n)) ∙ h 0 (suc-le-suc zero-le)
-
-        go : (b : Bool) → map f (indexesFrom p (suc n) xs) ≡ select p xs → map f (cond b (n ∷ indexesFrom p (suc n) xs) (indexesFrom p (suc n) xs)) ≡ cond b (x ∷ select p xs) (select p xs)
-        go true r = λ i. first i ∷ r i
-        go false r = r
-
-    pub named-indexes : (l : List A) → map (λ i. getD l i d) (indexesFrom p 0 l) ≡ select p l
-    named-indexes l = named-from (λ i. getD l i d) 0 l (λ m h. ap (λ (j : ℕ). getD l j d) (zero-plus m))
-      where
-        zero-plus : (m : ℕ) → 0 + m ≡ m
-        zero-plus m = omega arith

@@ -2,7 +2,7 @@
 use Prim.Native.Nat.{ℕ, zero, suc, _+_, _-_, _<_, _≤_, zero-le, suc-le-suc}
 use mathlib.Core.Path.{_≡_, refl, sym, ap, _∙_}
 use mathlib.Core.Bool.{Bool, true, false, cond}
-use mathlib.Core.List.{List, [], _∷_, _++_, map, append-assoc}
+use mathlib.Core.List.{List, [], _∷_, _++_, map, append-assoc, foldl}
 use native.Mathlib.Numerals.{add-one}
 use native.Mathlib.Omega.{arith}
 use lib.ListN.{length, take, drop, getD, set, length-map, length-append, length-take, length-drop, take-append-drop, drop-of-length-le}
@@ -10,7 +10,7 @@ use lib.Seq.{take-suc, take-all, drop-cons, take-at, getD-at, set-at, getD-appen
 use lib.Dec.{ltb}
 use borrow.Author.Tests.{lt-ltb, le-ltb}
 use native.Mathlib.Nat.{le-of-suc-le-suc, not-suc-le-zero}
-use Rattle.lists.specs.Lists.{foldl, select, insertBy, placeBy, over, All, insertAt}
+use Rattle.lists.specs.Lists.{select, insertBy, placeBy, over, All, insertAt}
 
 module _ {A : Type 0} where
   -- one element more, at the code's i + 1

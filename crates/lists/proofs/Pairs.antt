@@ -9,15 +9,15 @@ use borrow.Author.Tests.{lt-ltb}
 use lib.Dec.{ltb}
 use lib.ListN.{length, drop, getD, set, length-set}
 use lib.Seq.{set-append-left}
-use Rattle.lists.specs.Lists.{over, firstIndex, any, changeFirst, removeFirst, removeAt}
+use Rattle.lists.specs.Lists.{over, firstIndex, some, changeFirst, removeFirst, removeAt}
 
 module _ {A : Type 0} where
   -- one passes exactly if the place is within the list
-  pub any-first : (p : A → Bool) (l : List A) → any p l ≡ ltb (firstIndex p l) (length l)
-  any-first p [] = refl
-  any-first p (x ∷ xs) = go (p x) (any-first p xs)
+  pub some-first : (p : A → Bool) (l : List A) → some p l ≡ ltb (firstIndex p l) (length l)
+  some-first p [] = refl
+  some-first p (x ∷ xs) = go (p x) (some-first p xs)
     where
-      go : (b : Bool) → any p xs ≡ ltb (firstIndex p xs) (length xs) → cond b true (any p xs) ≡ ltb (cond b 0 (suc (firstIndex p xs))) (suc (length xs))
+      go : (b : Bool) → some p xs ≡ ltb (firstIndex p xs) (length xs) → cond b true (some p xs) ≡ ltb (cond b 0 (suc (firstIndex p xs))) (suc (length xs))
       go true h = sym (lt-ltb 0 (suc (length xs)) (omega arith))
       go false h = rw (compare·suc-suc) h
 

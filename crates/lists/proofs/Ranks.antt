@@ -2,13 +2,13 @@
 use Prim.Native.Nat.{ℕ, zero, suc, _+_, _<_, _≤_, zero-le, suc-le-suc}
 use mathlib.Core.Path.{_≡_, refl, sym, ap, _∙_}
 use mathlib.Core.Bool.{Bool, true, false, cond, _&&_, false≢true}
-use mathlib.Core.List.{List, [], _∷_, map}
+use mathlib.Core.List.{List, [], _∷_, map, foldl}
 use native.Mathlib.Nat.{add-zero, le-of-suc-le-suc, not-suc-le-zero}
 use native.Mathlib.Omega.{arith}
 use lib.Dec.{ltb}
 use lib.ListN.{length, getD}
 use Rattle.lists.proofs.Conditions.{split}
-use Rattle.lists.specs.Lists.{foldl, select, indexesFrom, insertBy, sortBy, All, firstIndex, changeAt}
+use Rattle.lists.specs.Lists.{select, indexesFrom, insertBy, sortBy, All, firstIndex, changeAt}
 
 -- `marks` says of each element of a list whether it passes. There is an element at an index, and it passes
 abbrev pub isMarked : List Bool → ℕ → Bool
@@ -146,10 +146,6 @@ module _ {A B : Type 0} (f : A → B) where
   map-change g h same i [] = refl
   map-change g h same zero (x ∷ xs) = ap (λ (z : B). z ∷ map f xs) (same x)
   map-change g h same (suc i) (x ∷ xs) = ap (λ (z : List B). f x ∷ z) (map-change g h same i xs)
-
-  pub foldl-map : {C : Type 0} (s : C → B → C) (c : C) (l : List A) → foldl s c (map f l) ≡ foldl (λ b x. s b (f x)) c l
-  foldl-map s c [] = refl
-  foldl-map s c (x ∷ xs) = foldl-map s (s c (f x)) xs
 
   pub indexes-map : (p : B → Bool) (n : ℕ) (l : List A) → indexesFrom p n (map f l) ≡ indexesFrom (λ x. p (f x)) n l
   indexes-map p n [] = refl

@@ -1,18 +1,13 @@
 -- Functions on lists that the definitions of every crate are made of.
 use Prim.Native.Nat.{ℕ, zero, suc, _<_}
 use mathlib.Core.Bool.{Bool, true, false, cond, _&&_}
-use mathlib.Core.List.{List, [], _∷_, _++_}
+use mathlib.Core.List.{List, [], _∷_, _++_, foldl}
 use mathlib.Core.Path.{_≡_}
 use mathlib.Core.Logic.{_⊎_}
 use lib.Dec.{ltb}
 use lib.ListN.{length, take, drop}
 
 module _ {A : Type 0} where
-  -- a fold from the left
-  abbrev pub foldl : {B : Type 0} → (B → A → B) → B → List A → B
-  foldl f b [] = b
-  foldl f b (x ∷ xs) = foldl f (f b x) xs
-
   -- the elements that pass a test, in order
   abbrev pub select : (A → Bool) → List A → List A
   select p [] = []
@@ -76,9 +71,9 @@ module _ {A : Type 0} where
   onFront n f l = f (take n l) ++ drop n l
 
   -- whether an element passes a test
-  abbrev pub any : (A → Bool) → List A → Bool
-  any p [] = false
-  any p (x ∷ xs) = cond (p x) true (any p xs)
+  abbrev pub some : (A → Bool) → List A → Bool
+  some p [] = false
+  some p (x ∷ xs) = cond (p x) true (some p xs)
 
   -- the first element that passes a test is changed
   abbrev pub changeFirst : (A → Bool) → (A → A) → List A → List A
@@ -97,8 +92,8 @@ module _ {A : Type 0} where
   removeAt (suc k) (x ∷ xs) = x ∷ removeAt k xs
 
 -- x before y in the order by a key, and by number among equal keys
-abbrev pub Lex : (ℕ → ℕ) → ℕ → ℕ → Type 0
-Lex k x y = (k x < k y) ⊎ ((k x ≡ k y) × (x < y))
+abbrev pub ByKey : (ℕ → ℕ) → ℕ → ℕ → Type 0
+ByKey k x y = (k x < k y) ⊎ ((k x ≡ k y) × (x < y))
 
 -- whether every element passes a test
 abbrev pub every : {A : Type 0} → (A → Bool) → List A → Bool

@@ -74,7 +74,7 @@ pub enum KeepaliveAnswer {
     KeepaliveParentLinkFailure,
 }
 
-// No device address: this device was removed.
+// No device address: this device was removed, or a neighbour left by a frame without its IEEE address.
 pub struct NlmeLeaveIndication {
     pub device_address: OptionalIeee,
     pub rejoin: bool,

@@ -8,8 +8,6 @@ use nib::IeeeAddress;
 use nib::PanId;
 use nib::ShortAddress;
 
-pub const MAX_PAN_DESCRIPTOR_SIZE: usize = 27;
-
 // The address of the sender of a beacon, with its PAN id.
 pub enum Address {
     Short(PanId, ShortAddress),

@@ -7,7 +7,7 @@ use mathlib.Core.List.{List, [], _∷_, map}
 use borrow.Author.Tests.{eqb-true, eqb-false, eq-eqb, ne-eqb, ltb-true}
 use lib.Dec.{eqb, ltb}
 use lib.ListN.{length, length-map}
-use Rattle.lists.specs.Lists.{firstIndex, changeAt, any, All}
+use Rattle.lists.specs.Lists.{firstIndex, changeAt, some, All}
 use Rattle.lists.proofs.Conditions.{split}
 use Rattle.lists.proofs.Ranks.{getD-map, first-map, map-change}
 use Rattle.nib.specs.Neighbors.{entryAt, blank}
@@ -113,7 +113,7 @@ module _ (a : ℕ) (x : IeeeAddress) where
       ap (map (look g)) (learnt-cons a x e es)
       ∙ split (hasAddress a e) (λ t. rw t) (λ t. rw t (ap (λ (z : List NwkNeighbor). look g e ∷ z) (look-learnt g es)))
 
-  learnt-ieee : (es : List NwkNeighbor) → any (hasAddress a) es ≡ true → (y : ℕ) → ieeeIn (learnt a x es) y ≡ cond (eqb y a) x (ieeeIn es y)
+  learnt-ieee : (es : List NwkNeighbor) → some (hasAddress a) es ≡ true → (y : ℕ) → ieeeIn (learnt a x es) y ≡ cond (eqb y a) x (ieeeIn es y)
   learnt-ieee [] h y = absurd (false≢true h)
   learnt-ieee (e ∷ es) h y =
       let b = e .«network_address» .0 in
@@ -128,7 +128,7 @@ module _ (a : ℕ) (x : IeeeAddress) where
       (λ u. rw (u, ne-eqb y a (λ w. eqb-false b a t (eqb-true b y u ∙ w))))
       (λ u. rw u (learnt-ieee es (rw t at h) y)))))
 
-  learnt-absent : (es : List NwkNeighbor) → any (hasAddress a) es ≡ false → learnt a x es ≡ es
+  learnt-absent : (es : List NwkNeighbor) → some (hasAddress a) es ≡ false → learnt a x es ≡ es
   unfolding learnt
   learnt-absent [] h = refl
   learnt-absent (e ∷ es) h =
@@ -141,7 +141,7 @@ module _ (a : ℕ) (x : IeeeAddress) where
       let ih = taught-all g es in
       split (hasAddress a e) (λ t. rw t (ap (λ (z : List NwkNeighbor). withIeee x e ∷ z) ih)) (λ t. rw t (ap (λ (z : List NwkNeighbor). look g e ∷ z) ih))
 
-  taught-none : (g : ℕ → IeeeAddress) (es : List NwkNeighbor) → any (hasAddress a) es ≡ false → map (taughtTo a x) (map (look g) es) ≡ map (look g) es
+  taught-none : (g : ℕ → IeeeAddress) (es : List NwkNeighbor) → some (hasAddress a) es ≡ false → map (taughtTo a x) (map (look g) es) ≡ map (look g) es
   taught-none g [] h = refl
   taught-none g (e ∷ es) h =
       split (hasAddress a e) (λ t. absurd (false≢true (sym (rw t at h)))) (λ t. rw t (ap (λ (z : List NwkNeighbor). look g e ∷ z) (taught-none g es (rw t at h))))
@@ -149,7 +149,7 @@ module _ (a : ℕ) (x : IeeeAddress) where
   pub seen-learnt : (es : List NwkNeighbor) → seen (learnt a x es) ≡ map (taughtTo a x) (seen es)
   unfolding seen
   seen-learnt es =
-      split (any (hasAddress a) es)
+      split (some (hasAddress a) es)
       (λ t. look-learnt (ieeeIn (learnt a x es)) es ∙ ap (λ (g : ℕ → IeeeAddress). map (look g) es) (fun-ext (learnt-ieee es t)) ∙ taught-all (ieeeIn es) es)
       (λ t. ap (λ (l : List NwkNeighbor). map (look (ieeeIn l)) l) (learnt-absent es t) ∙ sym (taught-none (ieeeIn es) es t))
 

@@ -7,13 +7,14 @@ use borrow.Author.Tests.{lt-ltb, le-ltb}
 use lib.Dec.{ltb}
 use lib.ListN.{length, drop, length-map, take-append-drop}
 use Rattle.lists.specs.Lists.{firstIndex}
+use Rattle.lists.proofs.First.{change-first}
 use Rattle.lists.proofs.Lists.{select-long}
 use Rattle.lists.proofs.Maps.{change-long, front-is}
-use Rattle.nib.specs.Neighbors.{entriesOf}
+use Rattle.nib.specs.Neighbors.{PARENT, NONE, entriesOf}
 use Rattle.nib.specs.declared.IeeeAddress.{IeeeAddress}
 use Rattle.nib.specs.declared.NwkNeighbor.{NwkNeighbor}
 use Rattle.nib.specs.declared.NeighborTable.{NeighborTable}
-use Rattle.neighbor_table.specs.NeighborTable.{onEntries, hasAddress, withIeee, withRelationship, withoutPotential, cleared, PARENT, NONE, learnt, marked, adopted, allCleared, potentialClearedAt, retained}
+use Rattle.neighbor_table.specs.NeighborTable.{onEntries, hasAddress, withIeee, withRelationship, withoutPotential, cleared, learnt, marked, adopted, allCleared, potentialClearedAt, retained}
 
 -- two changes that agree on the entries give one table
 pub on-same : (f g : List NwkNeighbor → List NwkNeighbor) (t : NeighborTable) → f (entriesOf t) ≡ g (entriesOf t) → onEntries f t ≡ onEntries g t
@@ -49,7 +50,7 @@ adopted-past i es h = rw (le-ltb i (length es) h)
 -- each change keeps the number of entries; a removal leaves as many or fewer
 pub learnt-long : (a : ℕ) (x : IeeeAddress) (es : List NwkNeighbor) → length (learnt a x es) ≡ length es
 unfolding learnt
-learnt-long a x es = change-long (withIeee x) (firstIndex (hasAddress a) es) es
+learnt-long a x es = ap length (change-first (hasAddress a) (withIeee x) es) ∙ change-long (withIeee x) (firstIndex (hasAddress a) es) es
 
 pub marked-long : (i : ℕ) (es : List NwkNeighbor) → length (marked i es) ≡ length es
 unfolding marked

@@ -1,6 +1,6 @@
 -- Laws of what is looked up, one entry at a time, and of what is looked up after a change. Assumes nothing.
 use Prim.Native.Nat.{ℕ, suc, _+_, _<_, zero-le, suc-le-suc, compare·suc-suc}
-use mathlib.Core.Path.{_≡_, _∙_}
+use mathlib.Core.Path.{_≡_, refl, _∙_}
 use mathlib.Core.Bool.{Bool, true, false, cond}
 use mathlib.Core.List.{List, _∷_}
 use borrow.Author.Tests.{lt-ltb}
@@ -8,7 +8,6 @@ use native.Mathlib.Numerals.{add-one}
 use lib.ListN.{length, drop, getD}
 use lib.Seq.{drop-cons}
 use Rattle.lists.specs.Lists.{firstIndex}
-use Rattle.lists.proofs.First.{first-change}
 use Rattle.nib.specs.Neighbors.{entryAt, blank}
 use Rattle.nib.specs.declared.IeeeAddress.{IeeeAddress}
 use Rattle.nib.specs.declared.NwkNeighbor.{NwkNeighbor}
@@ -40,4 +39,4 @@ parent-cons e es = first-entry isParent e es
 
 pub learnt-cons : (a : ℕ) (x : IeeeAddress) (e : NwkNeighbor) (es : List NwkNeighbor) → learnt a x (e ∷ es) ≡ cond (hasAddress a e) (withIeee x e ∷ es) (e ∷ learnt a x es)
 unfolding learnt
-learnt-cons a x e es = first-change (hasAddress a) (withIeee x) e es
+learnt-cons a x e es = refl

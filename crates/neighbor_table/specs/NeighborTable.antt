@@ -4,8 +4,8 @@ use mathlib.Core.Bool.{Bool, false, cond, not}
 use mathlib.Core.List.{List, map}
 use lib.Dec.{eqb, ltb}
 use lib.ListN.{length}
-use Rattle.lists.specs.Lists.{firstIndex, changeAt, onFront, select}
-use Rattle.nib.specs.Neighbors.{entryAt}
+use Rattle.lists.specs.Lists.{firstIndex, changeAt, changeFirst, onFront, select}
+use Rattle.nib.specs.Neighbors.{PARENT, NONE, entryAt}
 use Rattle.nib.specs.declared.IeeeAddress.{IeeeAddress}
 use Rattle.nib.specs.declared.NwkNeighbor.{NwkNeighbor}
 use Rattle.nib.specs.declared.NeighborTable.{NeighborTable}
@@ -19,13 +19,6 @@ use Rattle.neighbor_table.specs.declared.Change.{Change}
 use Rattle.neighbor_table.specs.declared.Change.the-variants.{ExtendedAddress, Relationship, NoPotentialParent, NoBeaconFields}
 
 -- Reading
-
--- the relationships PARENT and NONE (01, "Join request and confirm", "Neighbour entry"; Zigbee Table 3-63)
-abbrev pub PARENT : ℕ
-PARENT = 0
-
-abbrev pub NONE : ℕ
-NONE = 3
 
 abbrev pub hasAddress : ℕ → NwkNeighbor → Bool
 hasAddress a e = eqb (e .«network_address» .0) a
@@ -41,7 +34,7 @@ found a es = entryAt es (firstIndex (hasAddress a) es)
 unfoldable pub parentOf : List NwkNeighbor → Neighbor
 parentOf es = entryAt es (firstIndex isParent es)
 
--- an IEEE address of 0, which an entry has from its scan, is not known (01, "Neighbour entry")
+-- an IEEE address of 0, which an entry has from its scan, is not known (01, "Neighbour entry"; `neighbor_ieee_address` of the source)
 abbrev pub knownIeee : Neighbor → OptionalIeee
 knownIeee Absent = NoIeee
 knownIeee (Entry e) = cond (eqb (e .«extended_address» .0) 0) NoIeee (Ieee (e .«extended_address»))
@@ -158,6 +151,7 @@ ieeeNumber Absent = record { 0 = 0 }
 ieeeNumber (Entry e) = e .«extended_address»
 
 -- a neighbour as commands are addressed to it: with the IEEE address of the first entry with its short address, and not its own
+-- (`build_nwk_command_frame` of the source; Zigbee 3.4.6.2 and 3.4.11.2)
 abbrev pub seenIn : List NwkNeighbor → Neighbor → Neighbor
 seenIn es Absent = Absent
 seenIn es (Entry e) = Entry (withIeee (ieeeNumber (found (e .«network_address» .0) es)) e)
@@ -170,7 +164,7 @@ onEntries f t = record { entries = onFront (t .count) f (t .entries); count = t 
 
 -- the sender's IEEE address is taught to the first entry with its short address (01, "Received frame"; Zigbee 3.4.6.2)
 unfoldable pub learnt : ℕ → IeeeAddress → List NwkNeighbor → List NwkNeighbor
-learnt a ieee es = changeAt (firstIndex (hasAddress a) es) (withIeee ieee) es
+learnt a ieee es = changeFirst (hasAddress a) (withIeee ieee) es
 
 -- association status 0 makes the candidate PARENT; an older PARENT stays so (01, "Join request and confirm"; Zigbee 3.6.1.4.1.1)
 unfoldable pub marked : ℕ → List NwkNeighbor → List NwkNeighbor
@@ -192,11 +186,14 @@ potentialClearedAt i es = changeAt i withoutPotential es
 unfoldable pub retained : ℕ → List NwkNeighbor → List NwkNeighbor
 retained a es = select (λ e. not (hasAddress a e)) es
 
--- What the private enums of the code stand for
+-- What the private enums of the code stand for. No public promise uses them
+
+abbrev pub hasWanted : Wanted → ℕ → ℕ → Bool
+hasWanted (Address a) address relationship = eqb address (a .0)
+hasWanted Parent address relationship = eqb relationship PARENT
 
 abbrev pub isWanted : Wanted → NwkNeighbor → Bool
-isWanted (Address a) = hasAddress (a .0)
-isWanted Parent = isParent
+isWanted wanted e = hasWanted wanted (e .«network_address» .0) (e .relationship)
 
 abbrev pub changed : Change → NwkNeighbor → NwkNeighbor
 changed (ExtendedAddress a) = withIeee a

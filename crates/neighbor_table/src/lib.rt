@@ -2,8 +2,9 @@
 ghost use mathlib.Core.Path.{_≡_};
 ghost use mathlib.Core.List.{map};
 ghost use Rattle.lists.specs.Lists.{firstIndex, changeAt};
+ghost use Rattle.nib.specs.declared.Neighbor.the-variants.{Entry};
 ghost use Rattle.nib.specs.Neighbors.{entriesOf, entryAt, tableOf};
-ghost use Rattle.neighbor_table.specs.NeighborTable.{found, knownIeee, ieeeNumber, seenIn, parentOf, ieeeOf, onEntries, learnt, marked, adopted, allCleared, potentialClearedAt, retained, isWanted, cleared, changed};
+ghost use Rattle.neighbor_table.specs.NeighborTable.{found, knownIeee, withIeee, ieeeNumber, seenIn, parentOf, ieeeOf, onEntries, learnt, marked, adopted, allCleared, potentialClearedAt, retained, hasWanted, isWanted, cleared, changed};
 use nib::ExtendedPanId;
 use nib::IeeeAddress;
 use nib::Neighbor;
@@ -19,12 +20,12 @@ enum Wanted {
     Parent,
 }
 
-fn is_wanted(e: NwkNeighbor, wanted: Wanted) -> bool
-    ensures { λ r. ⌜ r ≡ isWanted wanted e ⌝ }
+fn is_wanted(address: u16, relationship: u8, wanted: Wanted) -> bool
+    ensures { λ r. ⌜ r ≡ hasWanted wanted address relationship ⌝ }
 {
     match wanted {
-        Wanted::Address(address) => e.network_address.0 == address.0,
-        Wanted::Parent => e.relationship == nib::relationship::PARENT,
+        Wanted::Address(a) => return address == a.0,
+        Wanted::Parent => return relationship == nib::relationship::PARENT,
     }
 }
 
@@ -36,8 +37,11 @@ fn first(table: NeighborTable, wanted: Wanted) -> u8
     let mut i = 0;
     while i < count {
         let at = i as usize;
-        let e = table.entries[at];
-        if is_wanted(e, wanted) {
+        if is_wanted(
+            table.entries[at].network_address.0,
+            table.entries[at].relationship,
+            wanted,
+        ) {
             return i;
         }
         i += 1;
@@ -54,7 +58,7 @@ fn look_for(table: NeighborTable, wanted: Wanted) -> Neighbor
     while i < count {
         let at = i as usize;
         let e = table.entries[at];
-        if is_wanted(e, wanted) {
+        if is_wanted(e.network_address.0, e.relationship, wanted) {
             return Neighbor::Entry(e);
         }
         i += 1;
@@ -81,13 +85,13 @@ pub fn known_ieee(neighbor: Neighbor) -> OptionalIeee
     ensures { λ r. ⌜ r ≡ knownIeee neighbor ⌝ }
 {
     match neighbor {
-        Neighbor::Absent => OptionalIeee::NoIeee,
+        Neighbor::Absent => return OptionalIeee::NoIeee,
         Neighbor::Entry(e) => {
             let ieee = e.extended_address;
             if ieee.0 == 0 {
                 return OptionalIeee::NoIeee;
             }
-            OptionalIeee::Ieee(ieee)
+            return OptionalIeee::Ieee(ieee);
         }
     }
 }
@@ -99,12 +103,21 @@ pub fn neighbor_ieee_address(table: NeighborTable, address: ShortAddress) -> Opt
     known_ieee(find(table, address))
 }
 
-fn ieee_number(neighbor: Neighbor) -> IeeeAddress
-    ensures { λ r. ⌜ r ≡ ieeeNumber neighbor ⌝ }
+// An entry with the IEEE address of another, or 0 where there is no other.
+fn addressed_by(mut e: NwkNeighbor, other: Neighbor) -> Neighbor
+    ensures { λ r. ⌜ r ≡ Entry (withIeee (ieeeNumber other) e) ⌝ }
 {
-    match neighbor {
-        Neighbor::Absent => IeeeAddress(0),
-        Neighbor::Entry(e) => e.extended_address,
+    match other {
+        Neighbor::Absent => {
+            let none = IeeeAddress(0);
+            e.extended_address = none;
+            return Neighbor::Entry(e);
+        }
+        Neighbor::Entry(o) => {
+            let known = o.extended_address;
+            e.extended_address = known;
+            return Neighbor::Entry(e);
+        }
     }
 }
 
@@ -113,13 +126,9 @@ pub fn seen(table: NeighborTable, neighbor: Neighbor) -> Neighbor
     ensures { λ r. ⌜ r ≡ seenIn (entriesOf table) neighbor ⌝ }
 {
     match neighbor {
-        Neighbor::Absent => Neighbor::Absent,
+        Neighbor::Absent => return Neighbor::Absent,
         Neighbor::Entry(e) => {
-            let address = e.network_address;
-            let known = ieee_number(find(table, address));
-            let mut out = e;
-            out.extended_address = known;
-            Neighbor::Entry(out)
+            return addressed_by(e, find(table, e.network_address));
         }
     }
 }
@@ -132,76 +141,63 @@ enum Change {
     NoBeaconFields,
 }
 
-fn without_beacon_fields(e: NwkNeighbor) -> NwkNeighbor
-    ensures { λ r. ⌜ r ≡ cleared e ⌝ }
-{
-    let mut out = e;
-    let network = ExtendedPanId(0);
-    let pan = PanId(0xffff);
-    out.extended_pan_id = network;
-    out.logical_channel = 0;
-    out.depth = 0;
-    out.permit_joining = false;
-    out.potential_parent = 0;
-    out.router_capacity = false;
-    out.end_device_capacity = false;
-    out.update_id = 0;
-    out.pan_id = pan;
-    out
-}
-
-fn change_entry(e: NwkNeighbor, change: Change) -> NwkNeighbor
+fn change_entry(mut e: NwkNeighbor, change: Change) -> NwkNeighbor
     ensures { λ r. ⌜ r ≡ changed change e ⌝ }
 {
-    let mut out = e;
     match change {
         Change::ExtendedAddress(ieee) => {
-            out.extended_address = ieee;
-            out
+            e.extended_address = ieee;
+            return e;
         }
         Change::Relationship(relationship) => {
-            out.relationship = relationship;
-            out
+            e.relationship = relationship;
+            return e;
         }
         Change::NoPotentialParent => {
-            out.potential_parent = 0;
-            out
+            e.potential_parent = 0;
+            return e;
         }
-        Change::NoBeaconFields => without_beacon_fields(e),
+        Change::NoBeaconFields => {
+            let network = ExtendedPanId(0);
+            let pan = PanId(0xffff);
+            e.extended_pan_id = network;
+            e.logical_channel = 0;
+            e.depth = 0;
+            e.permit_joining = false;
+            e.potential_parent = 0;
+            e.router_capacity = false;
+            e.end_device_capacity = false;
+            e.update_id = 0;
+            e.pan_id = pan;
+            return e;
+        }
     }
 }
 
 // The table with the entry at an index changed, or as it is where the index is past the entries in use.
-fn change_at(table: NeighborTable, index: u8, change: Change) -> NeighborTable
+fn change_at(mut table: NeighborTable, index: u8, change: Change) -> NeighborTable
     ensures { λ r. ⌜ r ≡ onEntries (changeAt index (changed change)) table ⌝ }
 {
-    let mut out = table;
-    let count = out.len();
-    if count <= index {
-        return out;
+    if table.len() <= index {
+        return table;
     }
     let at = index as usize;
-    let old = out.entries[at];
-    let new = change_entry(old, change);
-    out.entries[at] = new;
-    out
+    table.entries[at] = change_entry(table.entries[at], change);
+    table
 }
 
 // The table with every entry in use changed.
-fn change_all(table: NeighborTable, change: Change) -> NeighborTable
+fn change_all(mut table: NeighborTable, change: Change) -> NeighborTable
     ensures { λ r. ⌜ r ≡ onEntries (map (changed change)) table ⌝ }
 {
-    let mut out = table;
-    let count = out.len();
+    let count = table.len();
     let mut i = 0;
     while i < count {
         let at = i as usize;
-        let e = out.entries[at];
-        let new = change_entry(e, change);
-        out.entries[at] = new;
+        table.entries[at] = change_entry(table.entries[at], change);
         i += 1;
     }
-    out
+    table
 }
 
 // The first entry with the source's short address gets the IEEE address that the frame reports.

@@ -2,14 +2,26 @@
 use Prim.Native.Nat.{ℕ, _+_}
 use mathlib.Core.Bool.{false, cond}
 use mathlib.Core.List.{List}
-use lib.Dec.{ltb}
+use lib.Dec.{eqb, ltb}
 use lib.ListN.{length, take, getD, set, replicate}
 use Rattle.lists.specs.Lists.{over}
 use Rattle.nib.specs.declared.NwkNeighbor.{NwkNeighbor}
 use Rattle.nib.specs.declared.NeighborTable.{NeighborTable}
 use Rattle.nib.specs.declared.Neighbor.{Neighbor}
 use Rattle.nib.specs.declared.Neighbor.the-variants.{Absent, Entry}
-use Rattle.nib.specs.declared.DeviceType.the-variants.{Coordinator}
+use Rattle.nib.specs.declared.DeviceType.{DeviceType}
+use Rattle.nib.specs.declared.DeviceType.the-variants.{Coordinator, Router}
+
+-- the relationships PARENT and NONE (01, "Join request and confirm", "Neighbour entry"; Zigbee Table 3-63)
+abbrev pub PARENT : ℕ
+PARENT = 0
+
+abbrev pub NONE : ℕ
+NONE = 3
+
+-- the sender at 0x0000 is the coordinator; any other that sends a beacon is a router (Zigbee Table 3-63)
+unfoldable pub deviceType : ℕ → DeviceType
+deviceType address = cond (eqb address 0x0000) Coordinator Router
 
 -- the entries in use: as many as the count says, all 16 where it says more
 abbrev pub entriesOf : NeighborTable → List NwkNeighbor

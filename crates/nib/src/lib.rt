@@ -1,8 +1,8 @@
-// The part of the NWK information base that the choice of a parent reads: identifiers, link cost, capability bits and neighbour entries.
+// The part of the NWK information base that the decisions read or write: identifiers, link cost, capability bits, attributes and neighbour entries.
 ghost use mathlib.Core.Path.{_≡_};
 ghost use lib.ListN.{length};
 ghost use Rattle.nib.specs.Identifiers.{linkCost, bit};
-ghost use Rattle.nib.specs.Neighbors.{blank, entriesOf, entryAt, tableOf, pushed};
+ghost use Rattle.nib.specs.Neighbors.{deviceType, blank, entriesOf, entryAt, tableOf, pushed};
 ghost use mathlib.Core.List.{[]};
 
 // The identifiers are distinct types, so that none is taken for another.
@@ -22,28 +22,22 @@ pub enum OptionalIeee {
 
 pub const NWK_COORDINATOR_ADDRESS: u16 = 0x0000;
 
+// The short address of a device that is not joined (Zigbee 3.6.1.10.4).
 pub const NWK_UNASSIGNED_ADDRESS: u16 = 0xffff;
 
+// The broadcast to all devices, and the lowest broadcast address (Zigbee Table 3-68).
 pub const NWK_BROADCAST_ALL: u16 = 0xffff;
 
 pub const NWK_BROADCAST_ADDRESS_MIN: u16 = 0xfff8;
 
+// What a neighbour is to this device (Zigbee Table 3-63).
 pub mod relationship {
     pub const PARENT: u8 = 0x00;
 
-    pub const CHILD: u8 = 0x01;
-
-    pub const SIBLING: u8 = 0x02;
-
     pub const NONE: u8 = 0x03;
-
-    pub const PREVIOUS_CHILD: u8 = 0x04;
-
-    pub const UNAUTHENTICATED_CHILD: u8 = 0x05;
 }
 
-pub const MAX_NEIGBOUR_TABLE: usize = 16;
-
+// The highest cost of a link to a candidate (Zigbee 3.6.1.4.1.1).
 pub const MAX_PARENT_LINK_COST: u8 = 3;
 
 // The cost of a link by its LQI.
@@ -99,7 +93,7 @@ impl CapabilityInformation {
     }
 }
 
-// The attributes that decisions read or write. An end device timeout of 255 is not negotiated.
+// The attributes that decisions read or write. An end device timeout of 255 says that none is negotiated.
 pub struct Nib {
     pub network_address: ShortAddress,
     pub ieee_address: IeeeAddress,
@@ -119,6 +113,16 @@ pub enum DeviceType {
     Router,
     EndDevice,
     Invalid(u8),
+}
+
+// The device type of a beacon's sender, by its short address.
+pub fn device_type_at(address: ShortAddress) -> DeviceType
+    ensures { λ r. ⌜ r ≡ deviceType (address .0) ⌝ }
+{
+    if address.0 == NWK_COORDINATOR_ADDRESS {
+        return DeviceType::Coordinator;
+    }
+    DeviceType::Router
 }
 
 // A neighbour entry, in the source's field order. An IEEE address of 0 is not known.

@@ -141,7 +141,7 @@ withNegotiated information index n =
       «leave_request_allowed» = n .«leave_request_allowed»;
     }
 
--- the attributes that `clear_nib_on_leave` resets, of those held here (Zigbee 3.6.1.10.4)
+-- the attributes that `clear_nib_on_leave` resets, of those held here; the timeout index stays (01, "Received frame"; Zigbee 3.6.1.10.4)
 abbrev pub withNetworkLeft : Nib → Nib
 withNetworkLeft n =
     record {

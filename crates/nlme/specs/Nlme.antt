@@ -1,6 +1,6 @@
--- What calls do to the node's own part: frames out, the signal of a parent link failure, and the parent's supervision.
+-- What calls do to the node's own part: frames that are sent, the signal of a parent link failure, and supervision of the parent.
 use Prim.Native.Nat.{ℕ}
-use mathlib.Core.Bool.{Bool, true, false, cond}
+use mathlib.Core.Bool.{Bool, true, cond}
 use Rattle.nib.specs.declared.ShortAddress.{ShortAddress}
 use Rattle.nib.specs.declared.NwkNeighbor.{NwkNeighbor}
 use Rattle.nib.specs.declared.Neighbor.{Neighbor}
@@ -11,7 +11,7 @@ use Rattle.parent_timer.specs.Timer.{ticked}
 use Rattle.parent_timer.specs.declared.Ticked.{Ticked}
 use Rattle.supervision.specs.declared.FailedSend.{FailedSend}
 use Rattle.supervision.specs.Timeouts as timeouts
-use Rattle.supervision.specs.Failures.{cleared, transmitFailed}
+use Rattle.supervision.specs.Failures.{pairRemoved, transmitFailed}
 use Rattle.management.specs.Signals.{withStatusIndication}
 use Rattle.management.specs.declared.SendAnswer.the-variants.{SendOk, SendMacError, SendParentLinkFailure}
 use Rattle.management.specs.declared.StatusIndicationSlot.the-variants.{HasStatusIndication}
@@ -43,7 +43,7 @@ refreshed n = withTimer (timeouts.refreshed (n .nib .«end_device_timeout»)) n
 unfoldable pub negotiationReset : Nlme → Nlme
 negotiationReset n = withTimer (record { «remaining_ms» = 0 }) (withNib (withNegotiated 0 0xff (n .nib)) n)
 
--- the header of the next command frame: own addresses, the next sequence number, the destination's IEEE address where it is known (Zigbee 3.3.1 and 3.4.6.2)
+-- the header of the next command frame: own addresses, the next sequence number, the destination's IEEE address where it is known (Zigbee 3.3.2, 3.4.6.2 and 3.4.11.2)
 unfoldable pub commandHeader : Nlme → ShortAddress → OptionalIeee → Bool → CommandHeader
 commandHeader n destination ieee secure =
     record {
@@ -59,7 +59,7 @@ commandHeader n destination ieee secure =
 abbrev pub seqUsed : Nlme → Nlme
 seqUsed n = withSeq (nextSeq (n .«nwk_seq»)) n
 
--- a frame to a neighbour of this network
+-- a frame to a short address in this network, a neighbour's or the broadcast address
 abbrev pub transmission : Nlme → ShortAddress → SentFrame → Transmission
 transmission n to frame = record { «pan_id» = n .nib .panid; address = to; frame = frame }
 
@@ -73,24 +73,28 @@ timeoutRequested parent n =
     }
 
 -- the tick (01, "Supervision record"; Zigbee 3.6.10.6): expiry signals ParentLinkFailure
-unfoldable pub clocked : Neighbor → Nlme → Ticked → NlmeTicked
-clocked parent n t =
-    cond (t .expired) (record { nlme = linkFailure parent (withTimer (t .timer) n); expired = true }) (record { nlme = withTimer (t .timer) n; expired = false })
+unfoldable pub expirySignalled : Neighbor → Nlme → Ticked → NlmeTicked
+expirySignalled parent n t =
+    record {
+      nlme = cond (t .expired) (linkFailure parent (withTimer (t .timer) n)) (withTimer (t .timer) n);
+      expired = t .expired;
+    }
 
 abbrev pub nlmeTicked : Neighbor → ℕ → Nlme → NlmeTicked
-nlmeTicked parent elapsed n = clocked parent n (ticked (n .«parent_timer») elapsed)
+nlmeTicked parent elapsed n = expirySignalled parent n (ticked (n .«parent_timer») elapsed)
 
 -- the outcome of a send by `transmit_via_parent` (01, "Supervision record"; Zigbee 3.6.3.7): a success removes the parent's pair and restarts the timer;
 -- a failure counts, and the third signals ParentLinkFailure
 unfoldable pub sentViaParent : Neighbor → Nlme → ViaParent
 sentViaParent parent n =
-    record { nlme = refreshed (withFailures (cleared (n .«transmit_failures») (parentAddress parent)) n); answer = SendOk }
+    record { nlme = refreshed (withFailures (pairRemoved (n .«transmit_failures») (parentAddress parent)) n); answer = SendOk }
 
-unfoldable pub counted : Neighbor → Nlme → FailedSend → ViaParent
-counted parent n f =
-    cond (f .«link_failed»)
-    (record { nlme = linkFailure parent (withFailures (f .failures) n); answer = SendParentLinkFailure })
-    (record { nlme = withFailures (f .failures) n; answer = SendMacError })
+unfoldable pub failureCounted : Neighbor → Nlme → FailedSend → ViaParent
+failureCounted parent n f =
+    record {
+      nlme = cond (f .«link_failed») (linkFailure parent (withFailures (f .failures) n)) (withFailures (f .failures) n);
+      answer = cond (f .«link_failed») SendParentLinkFailure SendMacError;
+    }
 
 abbrev pub failedViaParent : Neighbor → Nlme → ViaParent
-failedViaParent parent n = counted parent n (transmitFailed (n .«transmit_failures») (parentAddress parent))
+failedViaParent parent n = failureCounted parent n (transmitFailed (n .«transmit_failures») (parentAddress parent))

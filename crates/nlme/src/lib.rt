@@ -1,4 +1,4 @@
-// The node's own part of the state, and what calls do to it: frames out, the signal of a parent link failure, and the parent's supervision.
+// The node's own part of the state, and what calls do to it: frames that are sent, the signal of a parent link failure, and supervision of the parent.
 ghost use mathlib.Core.Path.{_≡_};
 ghost use Rattle.supervision.specs.Keepalive.{keepaliveIntervalMs, keepaliveMethod, negotiatedPollIntervalMs};
 ghost use Rattle.nlme.specs.Nlme.{parentAddress, linkFailure, refreshed, negotiationReset, commandHeader, seqUsed, timeoutRequested, nlmeTicked, sentViaParent, failedViaParent};
@@ -19,6 +19,7 @@ use supervision::KeepaliveMethod;
 use supervision::OptionalPeriod;
 use supervision::TransmitFailures;
 
+// The node's own part of the state.
 pub struct Nlme {
     pub nib: Nib,
     // the last sequence number used
@@ -37,16 +38,19 @@ pub struct Transmission {
     pub frame: SentFrame,
 }
 
+// What the start of a transmission leaves, and what the radio is asked.
 pub struct Transmitting {
     pub nlme: Nlme,
     pub transmission: Transmission,
 }
 
+// What a tick leaves, and whether the timer expired.
 pub struct NlmeTicked {
     pub nlme: Nlme,
     pub expired: bool,
 }
 
+// What the outcome of a send by way of the parent leaves, and its answer.
 pub struct ViaParent {
     pub nlme: Nlme,
     pub answer: SendAnswer,
@@ -57,50 +61,41 @@ pub fn parent_address(parent: Neighbor) -> ShortAddress
     ensures { λ r. ⌜ r ≡ parentAddress parent ⌝ }
 {
     match parent {
-        Neighbor::Absent => ShortAddress(0xffff),
-        Neighbor::Entry(e) => e.network_address,
+        Neighbor::Absent => return ShortAddress(nib::NWK_UNASSIGNED_ADDRESS),
+        Neighbor::Entry(e) => return e.network_address,
     }
 }
 
 impl Nlme {
     // Signals ParentLinkFailure with the parent's short address.
-    pub fn parent_link_failure(self, parent: Neighbor) -> Nlme
+    pub fn parent_link_failure(mut self, parent: Neighbor) -> Nlme
         ensures { λ r. ⌜ r ≡ linkFailure parent self ⌝ }
     {
         let network_address = parent_address(parent);
         let indication = NlmeNwkStatusIndication { network_address };
-        let signals = self.signals;
-        let next = signals.with_status_indication(StatusIndicationSlot::HasStatusIndication(
-            indication,
-        ));
-        let mut out = self;
-        out.signals = next;
-        out
+        let slot = StatusIndicationSlot::HasStatusIndication(indication);
+        let signals = self.signals.with_status_indication(slot);
+        self.signals = signals;
+        self
     }
 
     // Restarts the timer at the negotiated timeout.
-    pub fn refresh_parent_timeout(self) -> Nlme
+    pub fn refresh_parent_timeout(mut self) -> Nlme
         ensures { λ r. ⌜ r ≡ refreshed self ⌝ }
     {
-        let nib = self.nib;
-        let timer = supervision::refresh_parent_timeout(nib.end_device_timeout);
-        let mut out = self;
-        out.parent_timer = timer;
-        out
+        let timer = supervision::refresh_parent_timeout(self.nib.end_device_timeout);
+        self.parent_timer = timer;
+        self
     }
 
-    // Forgets what was negotiated with the last parent.
-    pub fn reset_parent_negotiation(self) -> Nlme
+    // Parent information 0, timeout index 0xff, timer 0.
+    pub fn reset_parent_negotiation(mut self) -> Nlme
         ensures { λ r. ⌜ r ≡ negotiationReset self ⌝ }
     {
-        let mut nib = self.nib;
-        nib.parent_information = 0;
-        nib.end_device_timeout = 0xff;
-        let timer = ParentTimer { remaining_ms: 0 };
-        let mut out = self;
-        out.nib = nib;
-        out.parent_timer = timer;
-        out
+        self.nib.parent_information = 0;
+        self.nib.end_device_timeout = 0xff;
+        self.parent_timer.remaining_ms = 0;
+        self
     }
 
     // The header of the next command frame.
@@ -112,9 +107,8 @@ impl Nlme {
     ) -> CommandHeader
         ensures { λ r. ⌜ r ≡ commandHeader self destination «destination_ieee» secure ⌝ }
     {
-        let nib = self.nib;
-        let source = nib.network_address;
-        let source_ieee = nib.ieee_address;
+        let source = self.nib.network_address;
+        let source_ieee = self.nib.ieee_address;
         let sequence_number = frame::next_nwk_seq(self.nwk_seq);
         CommandHeader {
             destination,
@@ -127,94 +121,84 @@ impl Nlme {
     }
 
     // One sequence number is used up.
-    pub fn use_nwk_seq(self) -> Nlme
+    pub fn use_nwk_seq(mut self) -> Nlme
         ensures { λ r. ⌜ r ≡ seqUsed self ⌝ }
     {
-        let mut out = self;
-        out.nwk_seq = frame::next_nwk_seq(self.nwk_seq);
-        out
+        self.nwk_seq = frame::next_nwk_seq(self.nwk_seq);
+        self
     }
 
-    // A timeout request to the parent, pending once it is built.
-    pub fn timeout_request(self, parent: NwkNeighbor) -> Transmitting
-        ensures { λ r. ⌜ r ≡ timeoutRequested parent self ⌝ }
+    // A timeout request to the parent as it is transmitted.
+    fn timeout_transmission(self, parent: NwkNeighbor) -> Transmission
+        ensures { λ r. ⌜ r ≡ timeoutRequested parent self .transmission ⌝ }
     {
-        let nib = self.nib;
-        let index = nib.end_device_timeout_default;
-        let pan_id = nib.panid;
-        let address = parent.network_address;
         let ieee = neighbor_table::known_ieee(Neighbor::Entry(parent));
-        let header = self.command_header(address, ieee, true);
-        let frame = SentFrame::TimeoutRequest(header, index);
-        let mut nlme = self.use_nwk_seq();
-        nlme.pending_timeout_request = index;
-        let transmission = Transmission {
+        let header = self.command_header(parent.network_address, ieee, true);
+        let frame = SentFrame::TimeoutRequest(header, self.nib.end_device_timeout_default);
+        let pan_id = self.nib.panid;
+        let address = parent.network_address;
+        Transmission {
             pan_id,
             address,
             frame,
-        };
-        Transmitting { nlme, transmission }
+        }
+    }
+
+    // A timeout request to the parent, pending once it is built.
+    pub fn timeout_request(mut self, parent: NwkNeighbor) -> Transmitting
+        ensures { λ r. ⌜ r ≡ timeoutRequested parent self ⌝ }
+    {
+        let transmission = self.timeout_transmission(parent);
+        self.nwk_seq = frame::next_nwk_seq(self.nwk_seq);
+        self.pending_timeout_request = self.nib.end_device_timeout_default;
+        Transmitting {
+            nlme: self,
+            transmission,
+        }
     }
 
     // The timer tick.
-    pub fn tick_parent_timeout(self, parent: Neighbor, elapsed_ms: u32) -> NlmeTicked
+    pub fn tick_parent_timeout(mut self, parent: Neighbor, elapsed_ms: u32) -> NlmeTicked
         ensures { λ r. ⌜ r ≡ nlmeTicked parent «elapsed_ms» self ⌝ }
     {
-        let timer = self.parent_timer;
-        let t = timer.tick(elapsed_ms);
-        let left = t.timer;
-        let mut out = self;
-        out.parent_timer = left;
+        let t = self.parent_timer.tick(elapsed_ms);
+        self.parent_timer.remaining_ms = t.timer.remaining_ms;
         if t.expired {
-            let nlme = out.parent_link_failure(parent);
-            return NlmeTicked {
-                nlme,
-                expired: true,
-            };
+            self = self.parent_link_failure(parent);
         }
         NlmeTicked {
-            nlme: out,
-            expired: false,
+            nlme: self,
+            expired: t.expired,
         }
     }
 
     // A send through the parent succeeded.
-    pub fn sent_via_parent(self, parent: Neighbor) -> ViaParent
+    pub fn sent_via_parent(mut self, parent: Neighbor) -> ViaParent
         ensures { λ r. ⌜ r ≡ sentViaParent parent self ⌝ }
     {
         let address = parent_address(parent);
-        let failures = self.transmit_failures;
-        let left = supervision::clear_transmit_failures(failures, address);
-        let mut out = self;
-        out.transmit_failures = left;
-        let nlme = out.refresh_parent_timeout();
+        let left = supervision::clear_transmit_failures(self.transmit_failures, address);
+        self.transmit_failures = left;
         ViaParent {
-            nlme,
+            nlme: self.refresh_parent_timeout(),
             answer: SendAnswer::SendOk,
         }
     }
 
     // A send through the parent failed.
-    pub fn failed_via_parent(self, parent: Neighbor) -> ViaParent
+    pub fn failed_via_parent(mut self, parent: Neighbor) -> ViaParent
         ensures { λ r. ⌜ r ≡ failedViaParent parent self ⌝ }
     {
         let address = parent_address(parent);
-        let failures = self.transmit_failures;
-        let f = supervision::transmit_failed(failures, address);
+        let f = supervision::transmit_failed(self.transmit_failures, address);
         let left = f.failures;
-        let mut out = self;
-        out.transmit_failures = left;
+        self.transmit_failures = left;
+        let mut answer = SendAnswer::SendMacError;
         if f.link_failed {
-            let nlme = out.parent_link_failure(parent);
-            return ViaParent {
-                nlme,
-                answer: SendAnswer::SendParentLinkFailure,
-            };
+            self = self.parent_link_failure(parent);
+            answer = SendAnswer::SendParentLinkFailure;
         }
-        ViaParent {
-            nlme: out,
-            answer: SendAnswer::SendMacError,
-        }
+        ViaParent { nlme: self, answer }
     }
 
     // The keepalive that the parent expects.
@@ -224,16 +208,20 @@ impl Nlme {
         supervision::keepalive_method(self.nib.end_device_timeout, self.nib.parent_information)
     }
 
+    // The interval between keepalives in milliseconds.
     pub fn keepalive_interval_ms(self) -> OptionalPeriod
         ensures { λ r. ⌜ r ≡ keepaliveIntervalMs (self .nib .«end_device_timeout») ⌝ }
     {
         supervision::keepalive_interval_ms(self.nib.end_device_timeout)
     }
 
+    // The interval between polls in milliseconds, where polls are the keepalive.
     pub fn negotiated_poll_interval_ms(self) -> OptionalPeriod
         ensures { λ r. ⌜ r ≡ negotiatedPollIntervalMs (self .nib .«end_device_timeout») (self .nib .«parent_information») ⌝ }
     {
-        let nib = self.nib;
-        supervision::negotiated_poll_interval_ms(nib.end_device_timeout, nib.parent_information)
+        supervision::negotiated_poll_interval_ms(
+            self.nib.end_device_timeout,
+            self.nib.parent_information,
+        )
     }
 }

@@ -1,4 +1,4 @@
-// The timer that watches the parent: the local end-device timeout (Zigbee 3.6.10.6).
+// The parent timer: the local end-device timeout (Zigbee 3.6.10.6).
 ghost use mathlib.Core.Path.{_≡_};
 ghost use Prim.Native.Nat.{max};
 ghost use Rattle.parent_timer.specs.Timer.{ticked};
@@ -8,7 +8,7 @@ pub struct ParentTimer {
     pub remaining_ms: u32,
 }
 
-// What a tick leaves, and whether it reached 0.
+// What a tick leaves, and whether the timer expired.
 pub struct Ticked {
     pub timer: ParentTimer,
     pub expired: bool,

@@ -10,20 +10,20 @@ use lib.ListN.{length, drop, getD, set, replicate, length-append, length-set, le
 use Rattle.lists.specs.Lists.{over}
 use Rattle.lists.proofs.Lists.{over-snoc}
 use Rattle.lists.proofs.Pairs.{over-set}
-use Rattle.supervision.specs.Failures.{blankPair, failuresOf, counted, oneMore, roomy, pushed, countedAt}
+use Rattle.supervision.specs.Failures.{blankPair, failuresOf, countedOnce, oneMore, roomy, pairPushed, countedAt}
 use Rattle.supervision.specs.declared.TransmitFailure.{TransmitFailure}
 use Rattle.supervision.specs.declared.Recorded.{Recorded}
 
 -- one pair more
-pub push-of : (l : List TransmitFailure) (x : TransmitFailure) → length l < 16 → pushed (failuresOf l) x ≡ failuresOf (l ++ (x ∷ []))
+pub push-of : (l : List TransmitFailure) (x : TransmitFailure) → length l < 16 → pairPushed (failuresOf l) x ≡ failuresOf (l ++ (x ∷ []))
 push-of l x h = λ i. record { pairs = over-snoc (replicate 16 blankPair) l x h i; count = sym (length-append l (x ∷ [])) i }
 
 -- one failure more, written at its place
 pub count-of : (l : List TransmitFailure) (k : ℕ) → k < length l
-    → _≡_ {A = Recorded} (record { failures = record { pairs = set (over (replicate 16 blankPair) l) k (counted (getD l k blankPair)); count = length l }; total = oneMore (getD l k blankPair .count) }) (countedAt l k)
+    → _≡_ {A = Recorded} (record { failures = record { pairs = set (over (replicate 16 blankPair) l) k (countedOnce (getD l k blankPair)); count = length l }; total = oneMore (getD l k blankPair .count) }) (countedAt l k)
 count-of l k h =
     λ i. record {
-      failures = record { pairs = over-set (replicate 16 blankPair) l k (counted (getD l k blankPair)) h i; count = sym (length-set l k (counted (getD l k blankPair))) i };
+      failures = record { pairs = over-set (replicate 16 blankPair) l k (countedOnce (getD l k blankPair)) h i; count = sym (length-set l k (countedOnce (getD l k blankPair))) i };
       total = oneMore (getD l k blankPair .count);
     }
 

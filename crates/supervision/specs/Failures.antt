@@ -4,7 +4,7 @@ use mathlib.Core.Bool.{Bool, true, false, cond}
 use mathlib.Core.List.{List, [], _∷_, _++_}
 use lib.Dec.{eqb, ltb, leb}
 use lib.ListN.{length, take, drop, getD, set, replicate}
-use Rattle.lists.specs.Lists.{over, firstIndex, any, changeFirst, removeFirst}
+use Rattle.lists.specs.Lists.{over, firstIndex, some, changeFirst, removeFirst}
 use Rattle.nib.specs.declared.ShortAddress.{ShortAddress}
 use Rattle.supervision.specs.declared.TransmitFailure.{TransmitFailure}
 use Rattle.supervision.specs.declared.TransmitFailures.{TransmitFailures}
@@ -31,8 +31,8 @@ ofAddress a p = eqb (p .address .0) (a .0)
 abbrev pub oneMore : ℕ → ℕ
 oneMore n = min (n + 1) 255
 
-abbrev pub counted : TransmitFailure → TransmitFailure
-counted p = record { address = p .address; count = oneMore (p .count) }
+abbrev pub countedOnce : TransmitFailure → TransmitFailure
+countedOnce p = record { address = p .address; count = oneMore (p .count) }
 
 -- the count of an address: 0 where it has no pair
 abbrev pub countOf : ShortAddress → List TransmitFailure → ℕ
@@ -50,25 +50,27 @@ added a l = roomy l ++ (record { address = a; count = 1 } ∷ [])
 unfoldable pub recorded : TransmitFailures → ShortAddress → Recorded
 recorded f a =
     record {
-      failures = failuresOf (cond (any (ofAddress a) (pairsOf f)) (changeFirst (ofAddress a) counted (pairsOf f)) (added a (pairsOf f)));
+      failures = failuresOf (cond (some (ofAddress a) (pairsOf f)) (changeFirst (ofAddress a) countedOnce (pairsOf f)) (added a (pairsOf f)));
       total = oneMore (countOf a (pairsOf f));
     }
 
 -- the pairs without that of an address, as after a send that succeeded
-unfoldable pub cleared : TransmitFailures → ShortAddress → TransmitFailures
-cleared f a = failuresOf (removeFirst (ofAddress a) (pairsOf f))
+unfoldable pub pairRemoved : TransmitFailures → ShortAddress → TransmitFailures
+pairRemoved f a = failuresOf (removeFirst (ofAddress a) (pairsOf f))
 
--- a send by way of the parent has failed (Zigbee 3.6.3.7.1): the third failure, or a later one, is the link's and removes the pair
+-- a send by way of the parent has failed: the third failure, or one at a higher count, is a failure of the link and removes the pair (01, "Supervision record"; Zigbee 3.6.3.7.1)
 unfoldable pub transmitFailed : TransmitFailures → ShortAddress → FailedSend
 transmitFailed f a =
-    cond (leb 3 (recorded f a .total))
-    (record { failures = cleared (recorded f a .failures) a; «link_failed» = true })
-    (record { failures = recorded f a .failures; «link_failed» = false })
+    let r = recorded f a in
+    record {
+      failures = cond (leb 3 (r .total)) (pairRemoved (r .failures) a) (r .failures);
+      «link_failed» = leb 3 (r .total);
+    }
 
--- one pair more behind those in use, as a state is written down pair by pair
-abbrev pub pushed : TransmitFailures → TransmitFailure → TransmitFailures
-pushed f p = record { pairs = set (f .pairs) (f .count) p; count = f .count + 1 }
+-- one pair more behind those in use, where there are fewer than 16
+abbrev pub pairPushed : TransmitFailures → TransmitFailure → TransmitFailures
+pairPushed f p = record { pairs = set (f .pairs) (f .count) p; count = f .count + 1 }
 
 -- the pair at a place counts one failure more; no public promise uses it
 abbrev pub countedAt : List TransmitFailure → ℕ → Recorded
-countedAt l k = record { failures = failuresOf (set l k (counted (getD l k blankPair))); total = oneMore (getD l k blankPair .count) }
+countedAt l k = record { failures = failuresOf (set l k (countedOnce (getD l k blankPair))); total = oneMore (getD l k blankPair .count) }

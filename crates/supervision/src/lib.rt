@@ -5,7 +5,7 @@ ghost use lib.ListN.{length};
 ghost use Rattle.lists.specs.Lists.{firstIndex, removeAt};
 ghost use Rattle.supervision.specs.Timeouts.{timeoutSeconds, negotiatedTimeoutMs, refreshed};
 ghost use Rattle.supervision.specs.Keepalive.{keepaliveIntervalMs, offered, keepaliveMethod, negotiatedPollIntervalMs};
-ghost use Rattle.supervision.specs.Failures.{pairsOf, failuresOf, ofAddress, oneMore, roomy, pushed, countedAt, recorded, cleared, transmitFailed};
+ghost use Rattle.supervision.specs.Failures.{pairsOf, failuresOf, ofAddress, oneMore, roomy, pairPushed, countedAt, recorded, pairRemoved, transmitFailed};
 use nib::ShortAddress;
 use parent_timer::ParentTimer;
 
@@ -163,7 +163,7 @@ fn find(failures: TransmitFailures, neighbor: ShortAddress) -> u8
 // One pair more behind those in use.
 fn push(failures: TransmitFailures, p: TransmitFailure) -> TransmitFailures
     requires { ⌜ failures .count < 16 ⌝ }
-    ensures { λ r. ⌜ r ≡ pushed failures p ⌝ }
+    ensures { λ r. ⌜ r ≡ pairPushed failures p ⌝ }
 {
     let count = failures.count;
     let mut out = failures;
@@ -256,7 +256,7 @@ pub fn clear_transmit_failures(
     failures: TransmitFailures,
     neighbor: ShortAddress,
 ) -> TransmitFailures
-    ensures { λ r. ⌜ r ≡ cleared failures neighbor ⌝ }
+    ensures { λ r. ⌜ r ≡ pairRemoved failures neighbor ⌝ }
 {
     let place = find(failures, neighbor);
     without(failures, place)

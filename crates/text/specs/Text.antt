@@ -3,10 +3,10 @@ use Prim.Native.Nat.{ℕ, zero, suc, _+_, _-_, _*_, _/_, _%_}
 use Prim.Native.Char.{code}
 use Prim.Native.String.{String, [] as []ˢ, _∷_ as _∷ˢ_}
 use mathlib.Core.Bool.{Bool, true, false, cond, not, _&&_, _||_}
-use mathlib.Core.List.{List, [], _∷_, _++_}
+use mathlib.Core.List.{List, [], _∷_, _++_, foldl}
 use lib.Dec.{eqb, ltb, leb}
 use lib.ListN.{length, getD}
-use Rattle.lists.specs.Lists.{foldl, every}
+use Rattle.lists.specs.Lists.{every}
 use Rattle.text.specs.declared.OptionalNumber.{OptionalNumber}
 use Rattle.text.specs.declared.OptionalNumber.the-variants.{NoNumber, Number}
 

@@ -203,7 +203,7 @@ withPairs f st = withNode (withFailures f (st .control .nlme)) st
 
 unfoldable pub pairTaken : TransmitFailure → Session → Turn
 pairTaken p s =
-    cond (ltb (pairs (s .state) .count) 16) (silent (withState (withPairs (failures.pushed (pairs (s .state)) p) (s .state)) s)) (nonsense s)
+    cond (ltb (pairs (s .state) .count) 16) (silent (withState (withPairs (failures.pairPushed (pairs (s .state)) p) (s .state)) s)) (nonsense s)
 
 -- the choice of candidates on the present table
 abbrev pub choiceTold : Choice → Session → Turn

@@ -4,7 +4,7 @@ ghost use mathlib.Core.Bool.{true};
 ghost use mathlib.Core.List.{[]};
 ghost use Prim.Native.Nat.{_-_, _<_};
 ghost use Rattle.candidates.specs.Candidates.{listOf};
-ghost use Rattle.supervision.specs.Failures.{failuresOf, pushed};
+ghost use Rattle.supervision.specs.Failures.{failuresOf, pairPushed};
 ghost use Rattle.discovery.specs.Discovery.{confirmOf};
 ghost use Rattle.node.specs.Refusals.{refuse};
 ghost use Rattle.trace_calls.specs.TraceCalls.{noNode, noSignals, ownPart, idle, begun, withPairs, unheard, withBeacon, before, scenario, running, awaiting, saying, nonsense, silent, told, withNetworks, scanEnded, scanTaken, beaconTaken, entryTaken, pairTaken, chosen, shown, made, answer, kindOf, settingUp, hasNode, isBeacon, fitsStage, fits, taken};
@@ -193,7 +193,7 @@ fn begun(node: NodeFields) -> State
 // One pair more behind those in use.
 fn with_pair(failures: TransmitFailures, p: TransmitFailure) -> TransmitFailures
     requires { ⌜ failures .count < 16 ⌝ }
-    ensures { λ r. ⌜ r ≡ pushed failures p ⌝ }
+    ensures { λ r. ⌜ r ≡ pairPushed failures p ⌝ }
 {
     let count = failures.count;
     let mut out = failures;

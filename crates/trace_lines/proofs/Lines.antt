@@ -9,7 +9,7 @@ use borrow.Author.Tests.{eq-eqb, ne-eqb}
 use lib.Dec.{eqb}
 use lib.ListN.{length, take, drop, getD, set, length-drop, length-map, drop-of-length-le}
 use lib.Seq.{drop-cons, getD-drop, take-all, length-take-le}
-use Rattle.lists.specs.Lists.{every, any, over}
+use Rattle.lists.specs.Lists.{every, some, over}
 use Rattle.lists.proofs.Conditions.{pick-true}
 use Rattle.lists.proofs.Lists.{take-next, over-snoc}
 use Rattle.text.specs.Text.{orZero, isNumber}
@@ -35,11 +35,11 @@ module _ (rs : List OptionalNumber) (i : ℕ) (h : i < length rs) where
       ap (λ (z : List ℕ). 0 ∷ z) (sym (ap (map orZero) (take-next rs i NoNumber h) ∙ map-append orZero (take i rs) (getD rs i NoNumber ∷ []) ∙ ap (λ (r : OptionalNumber). map orZero (take i rs) ++ (orZero r ∷ [])) e)) in
       ap (λ (z : List ℕ). set z (i + 1) n) p ∙ ap (λ (j : ℕ). set (over zeros x) j n) (sym m) ∙ over-snoc zeros x n (omega arith) ∙ ap (over zeros) s
 
-pub dash-on : (ds : List Bool) (i : ℕ) → i < length ds → (d e : Bool) → e ≡ cond d true (getD ds i false) → cond d true (any (λ b. b) (drop i ds)) ≡ cond e true (any (λ b. b) (drop (i + 1) ds))
+pub dash-on : (ds : List Bool) (i : ℕ) → i < length ds → (d e : Bool) → e ≡ cond d true (getD ds i false) → cond d true (some (λ b. b) (drop i ds)) ≡ cond e true (some (λ b. b) (drop (i + 1) ds))
 dash-on ds i h d e p = rw (add-one, drop-cons ds i false h, p) (go d (getD ds i false))
   where
     r : Bool
-    r = any (λ b. b) (drop (suc i) ds)
+    r = some (λ b. b) (drop (suc i) ds)
 
     go : (x y : Bool) → cond x true (cond y true r) ≡ cond (cond x true y) true r
     go true y = refl
@@ -82,13 +82,13 @@ module _ (ls : List ℕ) (fs : List (List ℕ)) where
     unfolding allFit
     no-number k e = rw (e, eq-eqb (length (drop 1 fs)) (length ls) further)
 
-    pub all-read : (k i : ℕ) (d : Bool) (ns : List ℕ) → i ≡ length ls → every isNumber readings ≡ every isNumber (drop i readings) → any (λ b. b) dashes ≡ cond d true (any (λ b. b) (drop i dashes)) → ns ≡ over zeros (0 ∷ map orZero (take i readings)) → record { kind = k; count = i + 1; dash = d; numbers = ns } ≡ readAs k ls fs
+    pub all-read : (k i : ℕ) (d : Bool) (ns : List ℕ) → i ≡ length ls → every isNumber readings ≡ every isNumber (drop i readings) → some (λ b. b) dashes ≡ cond d true (some (λ b. b) (drop i dashes)) → ns ≡ over zeros (0 ∷ map orZero (take i readings)) → record { kind = k; count = i + 1; dash = d; numbers = ns } ≡ readAs k ls fs
     unfolding allFit lineAs
     all-read k i d ns p q r s =
         let a : drop i readings ≡ [] = drop-of-length-le readings {i = i} (omega (arith, reading-count)) in
         let b : drop i dashes ≡ [] = drop-of-length-le dashes {i = i} (omega (arith, dash-count)) in
         let t : every isNumber readings ≡ true = q ∙ ap (every isNumber) a in
-        let u : any (λ x. x) dashes ≡ d = r ∙ ap (λ (z : List Bool). cond d true (any (λ x. x) z)) b ∙ self d in
+        let u : some (λ x. x) dashes ≡ d = r ∙ ap (λ (z : List Bool). cond d true (some (λ x. x) z)) b ∙ self d in
         let v : take i readings ≡ readings = take-all i readings (omega (arith, reading-count)) in
         let w : ns ≡ over zeros (0 ∷ map orZero readings) = s ∙ ap (λ (z : List OptionalNumber). over zeros (0 ∷ map orZero z)) v in
         let c : i + 1 ≡ length fs = omega arith in

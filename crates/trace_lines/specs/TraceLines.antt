@@ -6,7 +6,7 @@ use mathlib.Core.Bool.{Bool, false, cond, _&&_}
 use mathlib.Core.List.{List, [], _∷_, _++_, map, zipWith, flatMap}
 use lib.Dec.{eqb, ltb}
 use lib.ListN.{length, take, drop, getD, replicate}
-use Rattle.lists.specs.Lists.{firstIndex, every, any, over}
+use Rattle.lists.specs.Lists.{firstIndex, every, some, over}
 use Rattle.text.specs.Text.{bytes, parts, fields, sameText, decimalOf, hexOf, orZero, isNumber, decimalText, hexText}
 use Rattle.text.specs.declared.OptionalNumber.{OptionalNumber}
 use Rattle.text.specs.declared.OptionalNumber.the-variants.{NoNumber, Number}
@@ -85,7 +85,7 @@ lineAs k letters fs =
     record {
       kind = k;
       count = length fs;
-      dash = any (λ d. d) (zipWith isDash letters (drop 1 fs));
+      dash = some (λ d. d) (zipWith isDash letters (drop 1 fs));
       numbers = over zeros (0 ∷ map orZero (zipWith numberOf letters (drop 1 fs)));
     }
 

@@ -4,7 +4,7 @@ use mathlib.Core.Bool.{Bool, cond, not}
 use mathlib.Core.List.{List}
 use lib.Dec.{eqb, ltb}
 use lib.ListN.{length, drop, getD}
-use Rattle.lists.specs.Lists.{firstIndex, any}
+use Rattle.lists.specs.Lists.{firstIndex, some}
 use Rattle.nib.specs.Neighbors.{entryAt}
 use Rattle.nib.specs.declared.NwkNeighbor.{NwkNeighbor}
 use Rattle.nib.specs.declared.Neighbor.{Neighbor}
@@ -42,7 +42,7 @@ nextIn es c = seenIn es (entryAt es (nextIndex (length es) c))
 
 -- an index being tried or still to be tried is not below n (01, "When a call is turned down")
 unfoldable pub strays : ℕ → Candidates → Bool
-strays n c = any (λ i. not (ltb i n)) (drop (c .taken - 1) (itemsOf (c .list)))
+strays n c = some (λ i. not (ltb i n)) (drop (c .taken - 1) (itemsOf (c .list)))
 
 -- Writing
 

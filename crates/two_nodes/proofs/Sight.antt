@@ -8,17 +8,18 @@ use borrow.Author.Tests.{ne-eqb, lt-ltb, le-ltb}
 use lib.Dec.{eqb, ltb}
 use lib.ListN.{length, getD, length-map, List·getD-map}
 use Rattle.lists.proofs.Lists.{select-long}
+use Rattle.lists.proofs.First.{change-first}
 use Rattle.lists.proofs.Maps.{change-past}
 use Rattle.lists.proofs.Order.{All-of, All-map}
 use Rattle.lists.proofs.Indexes.{in-indexes}
-use Rattle.lists.specs.Lists.{indexesFrom, select, firstIndex, changeAt, any, All}
+use Rattle.lists.specs.Lists.{indexesFrom, select, firstIndex, changeAt, some, All}
 use Rattle.lists.proofs.Conditions.{split}
 use Rattle.lists.proofs.Ranks.{isMarked, rank, changeRanked, marked-below, rank-below, at-rank, select-select, marks-map, marks-change, select-change, ranked-past, rank-none, select-map, marked-of, indexes-rank, indexes-map, sort-same}
-use Rattle.nib.specs.Neighbors.{entryAt, blank}
+use Rattle.nib.specs.Neighbors.{PARENT, NONE, entryAt, blank}
 use Rattle.nib.proofs.Tables.{entry-anywhere}
 use Rattle.nib.specs.declared.IeeeAddress.{IeeeAddress}
 use Rattle.nib.specs.declared.NwkNeighbor.{NwkNeighbor}
-use Rattle.neighbor_table.specs.NeighborTable.{hasAddress, isParent, parentOf, seenIn, withIeee, withRelationship, cleared, PARENT, NONE, learnt, marked, adopted, allCleared}
+use Rattle.neighbor_table.specs.NeighborTable.{hasAddress, isParent, parentOf, seenIn, withIeee, withRelationship, cleared, learnt, marked, adopted, allCleared}
 use Rattle.neighbor_table.proofs.Looks.{parent-cons}
 use Rattle.neighbor_table.proofs.Addressed.{look, ieeeIn, seen, seen-long, entry-seen, parent-seen, Mild, mild-relationship, mild-cleared, seen-change, seen-map, taughtTo, seen-learnt, NoAddress, seen-fresh}
 use Rattle.candidates.specs.UpdateIds.{ofNetwork, newest}
@@ -197,7 +198,7 @@ module _ (n a : ℕ) (x : IeeeAddress) where
 
   pub learnt-marks : (es : List NwkNeighbor) → marks n (learnt a x es) ≡ marks n es
   unfolding learnt
-  learnt-marks es = marks-change (ofNetwork n) (withIeee x) (λ e. refl) (firstIndex (hasAddress a) es) es
+  learnt-marks es = ap (marks n) (change-first (hasAddress a) (withIeee x) es) ∙ marks-change (ofNetwork n) (withIeee x) (λ e. refl) (firstIndex (hasAddress a) es) es
 
 -- A SCAN
 

@@ -10,7 +10,7 @@ use borrow.Author.Tests.{lt-ltb, le-ltb}
 use lib.Dec.{eqb, ltb}
 use lib.ListN.{length, take, drop, getD, replicate, length-take}
 use lib.Seq.{getD-drop}
-use Rattle.lists.specs.Lists.{select, firstIndex, any, All}
+use Rattle.lists.specs.Lists.{select, firstIndex, some, All}
 use Rattle.lists.proofs.Lists.{over-take}
 use Rattle.lists.proofs.Order.{All-map}
 use Rattle.lists.proofs.Conditions.{split}
@@ -416,7 +416,7 @@ module _ (n : ℕ) (f : ReceivedFrame) (s : State) where
 
 -- REFUSAL 5
 
-none-stray : (m k : ℕ) (l : List ℕ) → All (λ i. i < m) l → any (λ i. not (ltb i m)) (drop k l) ≡ false
+none-stray : (m k : ℕ) (l : List ℕ) → All (λ i. i < m) l → some (λ i. not (ltb i m)) (drop k l) ≡ false
 none-stray m zero [] a = refl
 none-stray m zero (i ∷ l) a = rw (lt-ltb i m (a .0)) (none-stray m zero l (a .1))
 none-stray m (suc k) [] a = refl

@@ -5,9 +5,9 @@ use mathlib.Core.List.{map}
 use native.Mathlib.Omega.{arith}
 use borrow.Author.Needs.{needs}
 use lib.ListN.{length, length-map}
-use Rattle.nib.specs.Neighbors.{entriesOf}
+use Rattle.nib.specs.Neighbors.{NONE, entriesOf}
 use Rattle.nib.specs.declared.NeighborTable.{NeighborTable}
-use Rattle.neighbor_table.specs.NeighborTable.{onEntries, withRelationship, NONE, marked, adopted}
+use Rattle.neighbor_table.specs.NeighborTable.{onEntries, withRelationship, marked, adopted}
 use Rattle.neighbor_table.proofs.Entries.{on-same, on-kept, on-on, adopted-past, adopted-is}
 use Rattle.neighbor_table.proofs.adopt_parent.Statement.{statement}
 use Rattle.neighbor_table.proofs.adopt_parent.Tie as tie

@@ -23,38 +23,38 @@ unchanged f i es h =
     (getD-at (map f (take i es)) (getD es i blank) (drop (suc i) es) blank i (length-map (take i es) f ∙ length-take-le i es (omega arith)))
 
 abbrev Inv-loop : tie.InvT-loop
-Inv-loop change out₀ count i₀ out i =
-    (count ≤ 16) × (i ≤ count) × (out ≡ record { entries = onFront i (map (changed change)) (out₀ .entries); count = out₀ .count })
+Inv-loop change table₀ count i₀ table i =
+    (count ≤ 16) × (i ≤ count) × (table ≡ record { entries = onFront i (map (changed change)) (table₀ .entries); count = table₀ .count })
 
 abbrev μ-loop : tie.MeasureT-loop
-μ-loop change out₀ count i₀ out i = count - i
+μ-loop change table₀ count i₀ table i = count - i
 
 len-requires : tie.Need-len-requires Inv-loop μ-loop
 len-requires c κs = search needs
 
 loop-holds : tie.Need-loop-holds Inv-loop μ-loop
 loop-holds c =
-    let t = c .before .args .table in
+    let t = c .before .args .t1 in
     let n : length (t .entries) ≡ 16 = search (needs, length-mapped) in
     (omega (arith, c .len .ensures, length-take (t .count) (t .entries)), omega arith, refl)
 
 cast-at : tie.Need-cast-at Inv-loop μ-loop
 cast-at c = omega arith
 
-mul-e : tie.Need-mul-e Inv-loop μ-loop
-mul-e c = omega arith
+mul-change-entry : tie.Need-mul-change-entry Inv-loop μ-loop
+mul-change-entry c = omega arith
 
-element-copy-out-e : tie.Need-element-copy-out-e Inv-loop μ-loop
-element-copy-out-e c = omega arith
+element-copy-out-change-entry : tie.Need-element-copy-out-change-entry Inv-loop μ-loop
+element-copy-out-change-entry c = omega arith
 
 change-entry-requires : tie.Need-change-entry-requires Inv-loop μ-loop
 change-entry-requires c κs = search needs
 
-mul-new : tie.Need-mul-new Inv-loop μ-loop
-mul-new c = omega arith
+mul-t14 : tie.Need-mul-t14 Inv-loop μ-loop
+mul-t14 c = omega arith
 
-element-set-from-new : tie.Need-element-set-from-new Inv-loop μ-loop
-element-set-from-new c = omega arith
+element-set-from-table : tie.Need-element-set-from-table Inv-loop μ-loop
+element-set-from-table c = omega arith
 
 add-i : tie.Need-add-i Inv-loop μ-loop
 add-i c = omega arith
@@ -66,21 +66,21 @@ loop-again : tie.Need-loop-again Inv-loop μ-loop
 loop-again c =
     let b = c .before .before .before in
     let s = b .before .before in
-    let es = s .args .table .entries in
+    let es = s .args .t1 .entries in
     let f = changed (s .args .change) in
     let i = b .loop .i in
     let n : length es ≡ 16 = search (needs, length-mapped) in
     let h : i < length es = omega arith in
-    let o : b .loop .out .entries ≡ onFront i (map f) es = ap (λ (r : NeighborTable). r .entries) (b .loop .inv .2) in
-    let q : b .loop .out .count ≡ s .args .table .count = ap (λ (r : NeighborTable). r .count) (b .loop .inv .2) in
-    let p : set (b .loop .out .entries) i (c .change-entry .result) ≡ onFront (i + 1) (map f) es = rw (c .change-entry .ensures, o, unchanged f i es h) (map-next f i es blank h) in
+    let o : b .loop .table .entries ≡ onFront i (map f) es = ap (λ (r : NeighborTable). r .entries) (b .loop .inv .2) in
+    let q : b .loop .table .count ≡ s .args .t1 .count = ap (λ (r : NeighborTable). r .count) (b .loop .inv .2) in
+    let p : set (b .loop .table .entries) i (c .change-entry .result) ≡ onFront (i + 1) (map f) es = rw (c .change-entry .ensures, o, unchanged f i es h) (map-next f i es blank h) in
     (b .loop .inv .0, omega arith, λ j. record { entries = p j; count = q j })
 
 returns : tie.Need-returns Inv-loop μ-loop
 unfolding onEntries
 returns c =
     let s = c .before .before .before in
-    let t = s .args .table in
+    let t = s .args .t1 in
     let f = changed (s .args .change) in
     let e : c .before .loop .i ≡ length (entriesOf t) = omega (arith, c .before .before .len .ensures) in
     c .before .loop .inv .2 ∙ rw (e, take-used (t .count) (t .entries), drop-used (t .count) (t .entries))
@@ -94,11 +94,11 @@ change-all-spec =
     len-requires
     loop-holds
     cast-at
-    mul-e
-    element-copy-out-e
+    mul-change-entry
+    element-copy-out-change-entry
     change-entry-requires
-    mul-new
-    element-set-from-new
+    mul-t14
+    element-set-from-table
     add-i
     loop-less
     loop-again

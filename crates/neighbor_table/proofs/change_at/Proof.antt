@@ -20,36 +20,36 @@ returns : tie.Need-returns
 returns c =
     let s = c .before .before in
     let f = changed (s .args .change) in
-    let h : length (entriesOf (s .args .table)) ≤ s .args .index = omega (arith, c .before .len .ensures) in
-    sym (on-kept (changeAt (s .args .index) f) (s .args .table) (change-past f (s .args .index) (entriesOf (s .args .table)) h))
+    let h : length (entriesOf (s .args .t1)) ≤ s .args .index = omega (arith, c .before .len .ensures) in
+    sym (on-kept (changeAt (s .args .index) f) (s .args .t1) (change-past f (s .args .index) (entriesOf (s .args .t1)) h))
 
-mul-old : tie.Need-mul-old
-mul-old c = search needs
+mul-change-entry : tie.Need-mul-change-entry
+mul-change-entry c = search needs
 
 -- past the test: the index is below 16, and below the count
-below : (c : tie.Else1) → (c .before .before .args .index < 16) × (c .before .before .args .index < c .before .before .args .table .count)
+below : (c : tie.Else1) → (c .before .before .args .index < 16) × (c .before .before .args .index < c .before .before .args .t1 .count)
 below c =
-    let t = c .before .before .args .table in
+    let t = c .before .before .args .t1 in
     let n : length (t .entries) ≡ 16 = search (needs, length-mapped) in
     (omega (arith, c .before .len .ensures, length-take (t .count) (t .entries)), omega (arith, c .before .len .ensures, length-take (t .count) (t .entries)))
 
-element-copy-out-old : tie.Need-element-copy-out-old
-element-copy-out-old c = below c .0
+element-copy-out-change-entry : tie.Need-element-copy-out-change-entry
+element-copy-out-change-entry c = below c .0
 
 change-entry-requires : tie.Need-change-entry-requires
 change-entry-requires c κs = search needs
 
-mul-new : tie.Need-mul-new
-mul-new c = search needs
+mul-t14 : tie.Need-mul-t14
+mul-t14 c = search needs
 
-element-set-from-new : tie.Need-element-set-from-new
-element-set-from-new c = below (c .before .before) .0
+element-set-from-table : tie.Need-element-set-from-table
+element-set-from-table c = below (c .before .before) .0
 
 returns-2 : tie.Need-returns-2
 unfolding onEntries
 returns-2 c =
     let s = c .before .before .before .before in
-    let t = s .args .table in
+    let t = s .args .t1 in
     rw (c .change-entry .ensures, change-set (changed (s .args .change)) (t .count) (s .args .index) (t .entries) blank (below (c .before .before) .1))
 
 pub change-at-spec : {M : Type 1} → statement M
@@ -58,9 +58,9 @@ change-at-spec =
     (tie.spec
     len-requires
     returns
-    mul-old
-    element-copy-out-old
+    mul-change-entry
+    element-copy-out-change-entry
     change-entry-requires
-    mul-new
-    element-set-from-new
+    mul-t14
+    element-set-from-table
     returns-2)

@@ -33,27 +33,33 @@ loop-holds c =
 cast-at : tie.Need-cast-at Inv-loop μ-loop
 cast-at c = omega arith
 
-mul-e : tie.Need-mul-e Inv-loop μ-loop
-mul-e c = omega arith
+mul-is-wanted : tie.Need-mul-is-wanted Inv-loop μ-loop
+mul-is-wanted c = omega arith
 
-element-copy-out-e : tie.Need-element-copy-out-e Inv-loop μ-loop
-element-copy-out-e c = omega arith
+mul-is-wanted-2 : tie.Need-mul-is-wanted-2 Inv-loop μ-loop
+mul-is-wanted-2 c = omega arith
+
+element-copy-out-is-wanted : tie.Need-element-copy-out-is-wanted Inv-loop μ-loop
+element-copy-out-is-wanted c = omega arith
+
+element-copy-out-is-wanted-2 : tie.Need-element-copy-out-is-wanted-2 Inv-loop μ-loop
+element-copy-out-is-wanted-2 c = omega arith
 
 is-wanted-requires : tie.Need-is-wanted-requires Inv-loop μ-loop
 is-wanted-requires c κs = search needs
 
 -- at the test of the entry at i: it is one of the entries in use
-below : (c : tie.After-is-wanted Inv-loop μ-loop) → c .before .before .before .loop .i < length (entriesOf (c .before .before .before .before .before .args .t1))
-below c = omega (arith, c .before .before .before .before .len .ensures)
+below : (c : tie.After-is-wanted Inv-loop μ-loop) → c .before .before .loop .i < length (entriesOf (c .before .before .before .before .args .t1))
+below c = omega (arith, c .before .before .before .len .ensures)
 
-test : (c : tie.After-is-wanted Inv-loop μ-loop) → isWanted (c .before .before .before .before .before .args .wanted) (getD (entriesOf (c .before .before .before .before .before .args .t1)) (c .before .before .before .loop .i) blank) ≡ c .is-wanted .result
+test : (c : tie.After-is-wanted Inv-loop μ-loop) → isWanted (c .before .before .before .before .args .wanted) (getD (entriesOf (c .before .before .before .before .args .t1)) (c .before .before .loop .i) blank) ≡ c .is-wanted .result
 test c =
-    let a = c .before .before .before .before .before .args in
-    ap (isWanted (a .wanted)) (entry-read (a .t1) (c .before .before .before .loop .i) (below c)) ∙ sym (c .is-wanted .ensures)
+    let a = c .before .before .before .before .args in
+    ap (isWanted (a .wanted)) (entry-read (a .t1) (c .before .before .loop .i) (below c)) ∙ sym (c .is-wanted .ensures)
 
 returns : tie.Need-returns Inv-loop μ-loop
 returns c =
-    let b = c .before .before .before .before in
+    let b = c .before .before .before in
     let s = b .before .before in
     omega (arith, b .loop .inv .2, first-here (isWanted (s .args .wanted)) (entriesOf (s .args .t1)) (b .loop .i) blank (below (c .before)) (test (c .before) ∙ c .if1 .taken))
 
@@ -65,7 +71,7 @@ loop-less c = omega arith
 
 loop-again : tie.Need-loop-again Inv-loop μ-loop
 loop-again c =
-    let b = c .before .before .before .before in
+    let b = c .before .before .before in
     let s = b .before .before in (
       b .loop .inv .0,
       omega arith,
@@ -91,8 +97,10 @@ first-spec =
     len-requires
     loop-holds
     cast-at
-    mul-e
-    element-copy-out-e
+    mul-is-wanted
+    element-copy-out-is-wanted
+    mul-is-wanted-2
+    element-copy-out-is-wanted-2
     is-wanted-requires
     returns
     add-i

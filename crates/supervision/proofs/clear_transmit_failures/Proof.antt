@@ -2,7 +2,7 @@
 use mathlib.Core.Path.{sym, _∙_}
 use borrow.Author.Needs.{needs}
 use Rattle.lists.proofs.Pairs.{remove-is}
-use Rattle.supervision.specs.Failures.{pairsOf, ofAddress, cleared}
+use Rattle.supervision.specs.Failures.{pairsOf, ofAddress, pairRemoved}
 use Rattle.supervision.proofs.clear_transmit_failures.Statement.{statement}
 use Rattle.supervision.proofs.clear_transmit_failures.Tie as tie
 
@@ -13,7 +13,7 @@ without-requires : tie.Need-without-requires
 without-requires c κs = search needs
 
 returns : tie.Need-returns
-unfolding cleared
+unfolding pairRemoved
 returns c =
     let a = c .before .before .args in
     c .without .ensures ∙ rw (c .before .find .ensures, sym (remove-is (ofAddress (a .neighbor)) (pairsOf (a .failures))))

@@ -7,8 +7,8 @@ use borrow.Author.Tests.{lt-ltb, le-ltb}
 use lib.ListN.{length, length-take, List·getD-eq-default}
 use Rattle.lists.specs.Lists.{firstIndex}
 use Rattle.lists.proofs.Lists.{length-mapped}
-use Rattle.lists.proofs.Pairs.{any-first, change-is}
-use Rattle.supervision.specs.Failures.{pairsOf, failuresOf, ofAddress, blankPair, counted, roomy, added, pushed, recorded}
+use Rattle.lists.proofs.Pairs.{some-first, change-is}
+use Rattle.supervision.specs.Failures.{pairsOf, failuresOf, ofAddress, blankPair, countedOnce, roomy, added, pairPushed, recorded}
 use Rattle.supervision.specs.declared.TransmitFailures.{TransmitFailures}
 use Rattle.supervision.proofs.Failures.{push-of, roomy-few}
 use Rattle.supervision.proofs.record_transmit_failure.Statement.{statement}
@@ -30,7 +30,7 @@ returns c =
     let l = pairsOf (s .args .failures) in
     let p = ofAddress (s .args .neighbor) in
     let h : firstIndex p l < length l = omega (arith, c .before .before .find .ensures, c .before .before .before .in-use .ensures) in
-    c .count-at .ensures ∙ rw (c .before .before .find .ensures, any-first p l, lt-ltb (firstIndex p l) (length l) h, change-is p counted l blankPair)
+    c .count-at .ensures ∙ rw (c .before .before .find .ensures, some-first p l, lt-ltb (firstIndex p l) (length l) h, change-is p countedOnce l blankPair)
 
 with-room-requires : tie.Need-with-room-requires
 with-room-requires c κs = search needs
@@ -53,9 +53,9 @@ returns-2 c =
     let h : length l ≤ firstIndex p l = omega (arith, c .before .before .before .find .ensures, c .before .before .before .before .in-use .ensures) in
     let e : c .push .result ≡ failuresOf (added a l) =
     c .push .ensures
-    ∙ ap (λ (r : TransmitFailures). pushed r (record { address = a; count = 1 })) (c .before .with-room .ensures)
+    ∙ ap (λ (r : TransmitFailures). pairPushed r (record { address = a; count = 1 })) (c .before .with-room .ensures)
     ∙ push-of (roomy l) (record { address = a; count = 1 }) (roomy-few l (omega (arith, length-take (f .count) (f .pairs)))) in
-    rw (e, any-first p l, le-ltb (firstIndex p l) (length l) h, List·getD-eq-default l blankPair h)
+    rw (e, some-first p l, le-ltb (firstIndex p l) (length l) h, List·getD-eq-default l blankPair h)
 
 pub record-transmit-failure-spec : {M : Type 1} → statement M
 record-transmit-failure-spec =

@@ -10,7 +10,7 @@ use lib.Seq.{getD-take, take-all, length-take-le}
 use Rattle.lists.specs.Lists.{removeAt}
 use Rattle.lists.proofs.Lists.{length-mapped, take-next}
 use Rattle.lists.proofs.Pairs.{remove-snoc, remove-last, remove-le}
-use Rattle.supervision.specs.Failures.{pairsOf, failuresOf, pushed, blankPair}
+use Rattle.supervision.specs.Failures.{pairsOf, failuresOf, pairPushed, blankPair}
 use Rattle.supervision.specs.declared.TransmitFailure.{TransmitFailure}
 use Rattle.supervision.specs.declared.TransmitFailures.{TransmitFailures}
 use Rattle.supervision.proofs.Failures.{push-of}
@@ -74,7 +74,7 @@ loop-again c =
       ⊎-elim
           (λ w. w .3
           ∙ w .2 .ensures
-          ∙ ap (λ (f : TransmitFailures). pushed f x) (b .loop .inv .1)
+          ∙ ap (λ (f : TransmitFailures). pairPushed f x) (b .loop .inv .1)
           ∙ push-of (removeAt k (take i l)) x few
           ∙ ap failuresOf (sym (ap (removeAt k) e ∙ remove-snoc k (take i l) x (λ s. w .0 .taken (sym m ∙ s)))))
           (λ w. w .1 ∙ b .loop .inv .1 ∙ ap failuresOf (sym (ap (removeAt k) e ∙ remove-last k (take i l) x (m ∙ w .0 .left))))

@@ -6,7 +6,7 @@ use mathlib.Core.Path.{_≡_, refl, sym, ap, _∙_}
 use mathlib.Core.Bool.{Bool, true, false, cond}
 use mathlib.Core.List.{_∷_, map}
 use lib.ListN.{length, take, drop, getD, length-set}
-use Rattle.lists.specs.Lists.{every, any, over}
+use Rattle.lists.specs.Lists.{every, some, over}
 use Rattle.text.specs.Text.{fields, orZero, isNumber}
 use Rattle.text.specs.declared.OptionalNumber.the-variants.{NoNumber, Number}
 use Rattle.text.proofs.Parts.{parts-some}
@@ -20,7 +20,7 @@ abbrev Inv-loop : tie.InvT-loop
 Inv-loop k letters line numbers₀ dash₀ at₀ i₀ numbers dash at i =
     (i ≤ length letters) × (length numbers ≡ 20)
     × (every isNumber (readings letters (fields line)) ≡ every isNumber (drop i (readings letters (fields line))))
-    × (any (λ d. d) (dashes letters (fields line)) ≡ cond dash true (any (λ d. d) (drop i (dashes letters (fields line)))))
+    × (some (λ d. d) (dashes letters (fields line)) ≡ cond dash true (some (λ d. d) (drop i (dashes letters (fields line)))))
     × (numbers ≡ over zeros (0 ∷ map orZero (take i (readings letters (fields line)))))
     × (i < length letters → FieldAt line (i + 1) at)
 

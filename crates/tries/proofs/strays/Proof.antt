@@ -3,7 +3,7 @@ use Prim.Native.Nat.{_-_, _≤_}
 use mathlib.Core.Bool.{false}
 use native.Mathlib.Omega.{arith}
 use lib.ListN.{length, drop, length-drop, drop-of-length-le}
-use Rattle.lists.proofs.Pairs.{any-first}
+use Rattle.lists.proofs.Pairs.{some-first}
 use Rattle.candidates.specs.Candidates.{itemsOf}
 use Rattle.tries.specs.Tries.{strays, within}
 use borrow.Author.Needs.{needs}
@@ -35,7 +35,7 @@ returns-2 c =
     let s = c .before .before .before in
     let a = s .before .before .args in
     let l = itemsOf (a .candidates .list) in
-    rw (c .first-from .ensures, c .before .before .in-use .ensures, s .last-place .ensures, any-first (within false (a .count)) (drop (a .candidates .taken - 1) l), length-drop (a .candidates .taken - 1) l)
+    rw (c .first-from .ensures, c .before .before .in-use .ensures, s .last-place .ensures, some-first (within false (a .count)) (drop (a .candidates .taken - 1) l), length-drop (a .candidates .taken - 1) l)
 
 pub strays-spec : {M : Type 1} → statement M
 strays-spec =

@@ -1,6 +1,5 @@
 -- `NeighborTable::new` meets its contract. Assumes nothing.
 use borrow.Author.Needs.{needs}
-use Rattle.nib.specs.declared.NeighborTable.{NeighborTable}
 use Rattle.nib.proofs.NeighborTable.new.Statement.{statement}
 use Rattle.nib.proofs.NeighborTable.new.Tie as tie
 

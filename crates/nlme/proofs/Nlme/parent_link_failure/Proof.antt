@@ -12,7 +12,7 @@ with-status-indication-requires c κs = search needs
 
 returns : tie.Need-returns
 unfolding linkFailure
-returns c = rw (c .with-status-indication .ensures, c .before .before .parent-address .ensures)
+returns c = rw (c .with-status-indication .ensures, c .before .parent-address .ensures)
 
 pub parent-link-failure-spec : {M : Type 1} → statement M
 parent-link-failure-spec =

@@ -15,7 +15,7 @@ refresh-parent-timeout-requires c κs = search needs
 
 returns : tie.Need-returns
 unfolding sentViaParent
-returns c = rw (c .refresh-parent-timeout .ensures, c .before .clear-transmit-failures .ensures, c .before .before .before .parent-address .ensures)
+returns c = rw (c .refresh-parent-timeout .ensures, c .before .clear-transmit-failures .ensures, c .before .before .parent-address .ensures)
 
 pub sent-via-parent-spec : {M : Type 1} → statement M
 sent-via-parent-spec =

@@ -1,8 +1,8 @@
 -- `device_type_at` meets its contract. Assumes nothing.
 use borrow.Author.Tests.{eq-eqb, ne-eqb}
-use Rattle.discovery.specs.Discovery.{deviceType}
-use Rattle.discovery.proofs.device_type_at.Statement.{statement}
-use Rattle.discovery.proofs.device_type_at.Tie as tie
+use Rattle.nib.specs.Neighbors.{deviceType}
+use Rattle.nib.proofs.device_type_at.Statement.{statement}
+use Rattle.nib.proofs.device_type_at.Tie as tie
 
 returns : tie.Need-returns
 unfolding deviceType
