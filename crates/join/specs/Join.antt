@@ -1,7 +1,7 @@
 -- The association (01, "Join request and confirm"; Zigbee 3.2.2.13 and 3.6.1.4.1.1). The candidate being tried and the next one are entries, seen with the IEEE
 -- address known of their short address; `Absent` where there is none.
 use Prim.Native.Nat.{ℕ}
-use mathlib.Core.Bool.{Bool, true, false, cond}
+use mathlib.Core.Bool.{Bool, false, cond, _||_}
 use lib.Dec.{eqb}
 use Rattle.nib.specs.declared.NwkNeighbor.{NwkNeighbor}
 use Rattle.nib.specs.declared.Neighbor.{Neighbor}
@@ -13,13 +13,14 @@ use Rattle.management.specs.declared.NlmeJoinStatus.the-variants.{Success, NotP
 use Rattle.management.specs.declared.NlmeJoinConfirm.{NlmeJoinConfirm}
 use Rattle.nlme.specs.Fields.{withNib, withCapabilities, withJoined}
 use Rattle.nlme.specs.Nlme.{negotiationReset}
-use Rattle.operation.specs.Operation.{withNlme, inPhase, ending}
+use Rattle.operation.specs.Operation.{withNlme, inPhase, decided, ending}
 use Rattle.operation.specs.declared.Phase.the-variants.{Idle, Association}
 use Rattle.operation.specs.declared.Control.{Control}
+use Rattle.operation.specs.declared.AssociateRequest.{AssociateRequest}
 use Rattle.operation.specs.declared.RadioRequest.the-variants.{Associate}
 use Rattle.operation.specs.declared.Note.the-variants.{NoNote}
 use Rattle.operation.specs.declared.Step.the-variants.{Ask, Joined}
-use Rattle.operation.specs.declared.Move.the-variants.{Stay, TakeNext, JoinTried}
+use Rattle.operation.specs.declared.Move.the-variants.{TakeNext, JoinTried}
 use Rattle.operation.specs.declared.Decision.{Decision}
 use Rattle.join.specs.declared.AssociationResponse.{AssociationResponse}
 use Rattle.join.specs.declared.AssociationOutcome.{AssociationOutcome}
@@ -33,25 +34,30 @@ failure st = record { status = st; «network_address» = record { 0 = 0xffff }; 
 abbrev pub failing : NlmeJoinStatus → Control → Decision
 failing st c = ending (Joined (failure st)) c
 
--- the request to associate with an entry (IEEE 802.15.4, association request): by its channel, PAN id and short address, with the stored capabilities
-unfoldable pub associating : Bool → NwkNeighbor → Control → Decision
-associating clear e c =
+-- whether the candidate being tried is no longer a potential parent
+abbrev pub clearing : Bool → Decision → Decision
+clearing clear d =
     record {
-      control = inPhase Association c;
+      control = d .control;
       «clear_potential_parent» = clear;
-      candidate = TakeNext;
-      note = NoNote;
-      step =
-          Ask
-          (Associate
-          (record {
-            channel = e .«logical_channel»;
-            «pan_id» = e .«pan_id»;
-            address = e .«network_address»;
-            capabilities = macCapabilities (c .nlme .nib .«capability_information» .0);
-          }));
-      «polls_used» = 0;
+      candidate = d .candidate;
+      note = d .note;
+      step = d .step;
+      «polls_used» = d .«polls_used»;
     }
+
+-- the request to associate with an entry (IEEE 802.15.4, association request): by its channel, PAN id and short address, with the stored capabilities
+abbrev pub associateRequest : NwkNeighbor → Control → AssociateRequest
+associateRequest e c =
+    record {
+      channel = e .«logical_channel»;
+      «pan_id» = e .«pan_id»;
+      address = e .«network_address»;
+      capabilities = macCapabilities (c .nlme .nib .«capability_information» .0);
+    }
+
+unfoldable pub associating : Bool → NwkNeighbor → Control → Decision
+associating clear e c = clearing clear (decided TakeNext NoNote (Ask (Associate (associateRequest e c))) (inPhase Association c))
 
 -- the start: parent information, timeout index and timer are reset; "No candidate: NotPermitted. Then capabilities are stored and candidates tried in order"
 abbrev pub resetNegotiation : Control → Control
@@ -69,35 +75,24 @@ unfoldable pub statusOf : ℕ → NlmeJoinStatus
 statusOf s = cond (eqb s 0) Success (cond (eqb s 1) PanAtCapacity (cond (eqb s 2) PanAccessDenied MacError))
 
 -- "Association status 0 sets addresses, ids and PARENT"; the confirm names the candidate's network and channel
-unfoldable pub joinedBy : AssociationResponse → NwkNeighbor → Control → Decision
-joinedBy r e c =
+abbrev pub joinedControl : AssociationResponse → NwkNeighbor → Control → Control
+joinedControl r e c = withNlme (withNib (withJoined (r .«association_address») (r .«device_address») e (c .nlme .nib)) (c .nlme)) c
+
+abbrev pub joinedConfirm : AssociationResponse → NwkNeighbor → NlmeJoinConfirm
+joinedConfirm r e =
     record {
-      control = inPhase Idle (withNlme (withNib (withJoined (r .«association_address») (r .«device_address») e (c .nlme .nib)) (c .nlme)) c);
-      «clear_potential_parent» = false;
-      candidate = JoinTried;
-      note = NoNote;
-      step =
-          Joined
-          (record {
-            status = Success;
-            «network_address» = r .«association_address»;
-            «extended_pan_id» = e .«extended_pan_id»;
-            channel = e .«logical_channel»;
-          });
-      «polls_used» = 0;
+      status = Success;
+      «network_address» = r .«association_address»;
+      «extended_pan_id» = e .«extended_pan_id»;
+      channel = e .«logical_channel»;
     }
+
+unfoldable pub joinedBy : AssociationResponse → NwkNeighbor → Control → Decision
+joinedBy r e c = decided JoinTried NoNote (Joined (joinedConfirm r e)) (inPhase Idle (joinedControl r e c))
 
 -- a candidate has failed: the next one is tried, or "The last candidate's status stands". "Status 1 and 2 clear potential parent"
 unfoldable pub failingOn : Bool → NlmeJoinStatus → Control → Decision
-failingOn clear st c =
-    record {
-      control = inPhase Idle c;
-      «clear_potential_parent» = clear;
-      candidate = Stay;
-      note = NoNote;
-      step = Joined (failure st);
-      «polls_used» = 0;
-    }
+failingOn clear st c = clearing clear (failing st c)
 
 unfoldable pub candidateFailed : Bool → NlmeJoinStatus → Neighbor → Control → Decision
 candidateFailed clear st Absent c = failingOn clear st c
@@ -110,7 +105,7 @@ succeeded r (Entry e) next c = joinedBy r e c
 
 -- "Status 1 and 2 clear potential parent"
 abbrev pub clears : ℕ → Bool
-clears s = cond (eqb s 1) true (eqb s 2)
+clears s = eqb s 1 || eqb s 2
 
 unfoldable pub associated : AssociationOutcome → Neighbor → Neighbor → Control → Decision
 associated AssociationFailed tried next c = candidateFailed false MacError next c

@@ -7,16 +7,12 @@ use Rattle.join.proofs.associate.Tie as tie
 associate-request-requires : tie.Need-associate-request-requires
 associate-request-requires c κs = search needs
 
-asking-requires : tie.Need-asking-requires
-asking-requires c κs = search needs
-
 moving-requires : tie.Need-moving-requires
 moving-requires c κs = search needs
 
 returns : tie.Need-returns
 unfolding associating
-returns c = rw (c .moving .ensures, c .before .asking .ensures, c .before .before .associate-request .ensures)
+returns c = rw (c .moving .ensures, c .before .associate-request .ensures)
 
 pub associate-spec : {M : Type 1} → statement M
-associate-spec =
-    tie.close (tie.spec associate-request-requires asking-requires moving-requires returns)
+associate-spec = tie.close (tie.spec associate-request-requires moving-requires returns)

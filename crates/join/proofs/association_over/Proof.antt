@@ -1,8 +1,11 @@
 -- `association_over` meets its contract. Assumes nothing.
-use Rattle.join.specs.Join.{associated}
+use lib.Dec.{eqb}
 use mathlib.Core.Path.{sym, ap, _∙_}
-use Rattle.join.specs.declared.AssociationOutcome.{AssociationOutcome}
+use borrow.Author.Tests.{eq-eqb, ne-eqb}
 use borrow.Author.Needs.{needs}
+use Rattle.lists.proofs.Conditions.{pick-true, pick-false}
+use Rattle.join.specs.Join.{candidateFailed, associated}
+use Rattle.join.specs.declared.AssociationOutcome.{AssociationOutcome}
 use Rattle.join.proofs.association_over.Statement.{statement}
 use Rattle.join.proofs.association_over.Tie as tie
 
@@ -19,14 +22,36 @@ returns c = let a = c .before .before .before .args in c .candidate-failed .ensu
 enum-known-outcome : tie.Need-enum-known-outcome
 enum-known-outcome c = search needs
 
-answered-requires : tie.Need-answered-requires
-answered-requires c κs = search needs
+succeeded-requires : tie.Need-succeeded-requires
+succeeded-requires c κs = search needs
 
 returns-2 : tie.Need-returns-2
 unfolding associated
 returns-2 c =
-    let a = c .before .before .before .before .args in
-    rw (c .answered .ensures) (sym (ap (λ (x : AssociationOutcome). associated x (a .tried) (a .next) (a .control)) (c .before .before .outcome .given .1)))
+    let a = c .before .before .before .before .before .args in
+    let o = c .before .before .before .outcome .given in
+    let s = o .0 .0 .status in
+    c .succeeded .ensures ∙ pick-true (eqb s 0) _ _ (eq-eqb s 0 (c .before .if1 .taken))
+    ∙ sym (ap (λ (x : AssociationOutcome). associated x (a .tried) (a .next) (a .control)) (o .1))
+
+clears-requires : tie.Need-clears-requires
+clears-requires c κs = search needs
+
+join-status-requires : tie.Need-join-status-requires
+join-status-requires c κs = search needs
+
+candidate-failed-requires-2 : tie.Need-candidate-failed-requires-2
+candidate-failed-requires-2 c κs = search needs
+
+returns-3 : tie.Need-returns-3
+unfolding associated
+returns-3 c =
+    let a = c .before .before .before .before .before .before .before .args in
+    let o = c .before .before .before .before .before .outcome .given in
+    let s = o .0 .0 .status in
+    rw (c .candidate-failed2 .ensures, c .before .join-status .ensures, c .before .before .clears .ensures)
+    (pick-false (eqb s 0) _ _ (ne-eqb s 0 (c .before .before .before .if1 .left))
+    ∙ sym (ap (λ (x : AssociationOutcome). associated x (a .tried) (a .next) (a .control)) (o .1)))
 
 pub association-over-spec : {M : Type 1} → statement M
 association-over-spec =
@@ -36,5 +61,9 @@ association-over-spec =
     candidate-failed-requires
     returns
     enum-known-outcome
-    answered-requires
-    returns-2)
+    succeeded-requires
+    returns-2
+    clears-requires
+    join-status-requires
+    candidate-failed-requires-2
+    returns-3)

@@ -10,22 +10,14 @@ joined-confirm-requires c κs = search needs
 joined-control-requires : tie.Need-joined-control-requires
 joined-control-requires c κs = search needs
 
-join-over-requires : tie.Need-join-over-requires
-join-over-requires c κs = search needs
-
 moving-requires : tie.Need-moving-requires
 moving-requires c κs = search needs
 
 returns : tie.Need-returns
 unfolding joinedBy
-returns c = rw (c .moving .ensures, c .before .join-over .ensures, c .before .before .joined-control .ensures, c .before .before .before .joined-confirm .ensures)
+returns c = rw (c .moving .ensures, c .before .joined-control .ensures, c .before .before .joined-confirm .ensures)
 
 pub joined-by-spec : {M : Type 1} → statement M
 joined-by-spec =
     tie.close
-    (tie.spec
-    joined-confirm-requires
-    joined-control-requires
-    join-over-requires
-    moving-requires
-    returns)
+    (tie.spec joined-confirm-requires joined-control-requires moving-requires returns)
