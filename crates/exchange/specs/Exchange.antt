@@ -1,6 +1,5 @@
 -- Sends, polls, negotiation and keepalive outside a rejoin (01, "Supervision record"; Zigbee 3.6.3, 3.6.6 and 3.6.10). `parent` is the present parent, seen with
 -- the IEEE address known of its short address.
-use Prim.Native.Nat.{_-_}
 use mathlib.Core.Bool.{Bool, true, false, cond}
 use lib.Dec.{eqb}
 use Rattle.nib.specs.declared.NwkNeighbor.{NwkNeighbor}
@@ -11,6 +10,7 @@ use Rattle.management.specs.Signals.{withTimeoutResponse}
 use Rattle.management.specs.declared.SendAnswer.the-variants.{SendNotJoined}
 use Rattle.management.specs.declared.PollAnswer.{PollAnswer}
 use Rattle.management.specs.declared.PollAnswer.the-variants.{PollNotJoined}
+use Rattle.management.specs.declared.NegotiationAnswer.{NegotiationAnswer}
 use Rattle.management.specs.declared.NegotiationAnswer.the-variants.{Negotiated, NotNegotiated, NegotiationNotJoined, NegotiationMacError}
 use Rattle.management.specs.declared.KeepaliveAnswer.the-variants.{KeepaliveOk, KeepaliveParentLinkFailure}
 use Rattle.management.specs.declared.TimeoutResponseSlot.{TimeoutResponseSlot}
@@ -21,14 +21,12 @@ use Rattle.nlme.specs.Fields.{withSignals}
 use Rattle.nlme.specs.Nlme.{linkFailure, refreshed, seqUsed, transmission, timeoutRequested, sentViaParent, failedViaParent}
 use Rattle.nlme.specs.declared.ViaParent.{ViaParent}
 use Rattle.nlme.specs.declared.Transmitting.{Transmitting}
-use Rattle.operation.specs.Operation.{withNlme, withOperation, awaiting, withPolls, asking, ending, afterPolls}
+use Rattle.operation.specs.Operation.{withNlme, withOperation, withPolls, asking, ending, afterPolls, polled, pollCounted}
 use Rattle.operation.specs.declared.Phase.the-variants.{DataSend, TimeoutSend, Reception}
 use Rattle.operation.specs.declared.Purpose.the-variants.{SinglePoll, SingleReceive, TimeoutResponse}
 use Rattle.operation.specs.declared.Control.{Control}
-use Rattle.operation.specs.declared.RadioRequest.the-variants.{Transmit, Poll, Receive}
-use Rattle.operation.specs.declared.Note.the-variants.{NoNote}
-use Rattle.operation.specs.declared.Step.the-variants.{Ask, Sent, Polled, NegotiationOver, KeepaliveOver}
-use Rattle.operation.specs.declared.Move.the-variants.{Stay}
+use Rattle.operation.specs.declared.RadioRequest.the-variants.{Transmit, Receive}
+use Rattle.operation.specs.declared.Step.the-variants.{Sent, Polled, NegotiationOver, KeepaliveOver}
 use Rattle.operation.specs.declared.Decision.{Decision}
 
 -- a data send (`send_data`): it goes through the parent and carries no IEEE address; with no parent it uses up a sequence number all the same
@@ -61,7 +59,7 @@ dataSent false parent c = viaParent (failedViaParent parent (c .nlme)) c
 -- one poll of the parent (Zigbee 3.6.6), or one passive receive
 unfoldable pub pollStarted : Neighbor → Control → Decision
 pollStarted Absent c = ending (Polled PollNotJoined) c
-pollStarted (Entry p) c = asking (Reception SinglePoll) (Poll (c .nlme .nib .panid) (p .«network_address»)) c
+pollStarted (Entry p) c = polled SinglePoll p c
 
 unfoldable pub receiveStarted : Control → Decision
 receiveStarted c = asking (Reception SingleReceive) Receive c
@@ -69,25 +67,18 @@ receiveStarted c = asking (Reception SingleReceive) Receive c
 unfoldable pub pollOver : PollAnswer → Control → Decision
 pollOver a c = ending (Polled a) c
 
--- a negotiation ends, or a keepalive, whose failure signals ParentLinkFailure
+-- a negotiation or a keepalive ends
 abbrev pub keepaliveFailed : Neighbor → Control → Decision
 keepaliveFailed parent c = ending (KeepaliveOver KeepaliveParentLinkFailure) (withNlme (linkFailure parent (c .nlme)) c)
 
-unfoldable pub notJoined : Bool → Neighbor → Control → Decision
-notJoined true parent c = keepaliveFailed parent c
-notJoined false parent c = ending (NegotiationOver NegotiationNotJoined) c
-
-unfoldable pub requestFailed : Bool → Neighbor → Control → Decision
-requestFailed true parent c = keepaliveFailed parent c
-requestFailed false parent c = ending (NegotiationOver NegotiationMacError) c
+-- a keepalive that fails signals ParentLinkFailure, whatever the reason; a negotiation says the reason
+unfoldable pub timeoutFailed : NegotiationAnswer → Bool → Neighbor → Control → Decision
+timeoutFailed a true parent c = keepaliveFailed parent c
+timeoutFailed a false parent c = ending (NegotiationOver a) c
 
 unfoldable pub accepted : Bool → Control → Decision
 accepted true c = ending (KeepaliveOver KeepaliveOk) (withNlme (refreshed (c .nlme)) c)
 accepted false c = ending (NegotiationOver Negotiated) c
-
-unfoldable pub rejected : Bool → Neighbor → Control → Decision
-rejected true parent c = keepaliveFailed parent c
-rejected false parent c = ending (NegotiationOver NotNegotiated) c
 
 -- the start of a negotiation or keepalive (Zigbee 3.6.10.2 and 3.6.10.3): an old response is dropped, with no parent too; "at most 3 polls follow a send that succeeded"
 abbrev pub noTimeoutResponse : Control → Control
@@ -98,23 +89,16 @@ requesting keepalive t c =
     asking (TimeoutSend keepalive) (Transmit (t .transmission)) (record { nlme = t .nlme; operation = withPolls 3 (c .operation) })
 
 unfoldable pub timeoutStarted : Bool → Neighbor → Control → Decision
-timeoutStarted keepalive Absent c = notJoined keepalive Absent (noTimeoutResponse c)
+timeoutStarted keepalive Absent c = timeoutFailed NegotiationNotJoined keepalive Absent (noTimeoutResponse c)
 timeoutStarted keepalive (Entry p) c = requesting keepalive (timeoutRequested p (noTimeoutResponse c .nlme)) (noTimeoutResponse c)
 
 -- the polls: any timeout response ends them and its status decides; a poll with no PARENT counts and sends nothing
 unfoldable pub timeoutPolling : Bool → NwkNeighbor → Control → Decision
-timeoutPolling keepalive p c =
-    record {
-      control = withOperation (withPolls (c .operation .«polls_left» - 1) (awaiting (Reception (TimeoutResponse keepalive)) (c .operation))) c;
-      «clear_potential_parent» = false;
-      candidate = Stay;
-      note = NoNote;
-      step = Ask (Poll (c .nlme .nib .panid) (p .«network_address»));
-      «polls_used» = 1;
-    }
+timeoutPolling keepalive p c = pollCounted (TimeoutResponse keepalive) p c
 
 unfoldable pub timeoutUnanswered : Bool → Neighbor → Control → Decision
-timeoutUnanswered keepalive parent c = afterPolls (c .operation .«polls_left») (rejected keepalive parent (withOperation (withPolls 0 (c .operation)) c))
+timeoutUnanswered keepalive parent c =
+    afterPolls (c .operation .«polls_left») (timeoutFailed NotNegotiated keepalive parent (withOperation (withPolls 0 (c .operation)) c))
 
 unfoldable pub timeoutPollParent : Bool → Neighbor → Control → Decision
 timeoutPollParent keepalive Absent c = timeoutUnanswered keepalive Absent c
@@ -122,7 +106,7 @@ timeoutPollParent keepalive (Entry p) c = timeoutPolling keepalive p c
 
 unfoldable pub timeoutAnsweredBy : TimeoutResponseSlot → Bool → Neighbor → Control → Decision
 timeoutAnsweredBy (HasTimeoutResponse r) keepalive parent c =
-    cond (eqb (r .status) 0) (accepted keepalive (noTimeoutResponse c)) (rejected keepalive parent (noTimeoutResponse c))
+    cond (eqb (r .status) 0) (accepted keepalive (noTimeoutResponse c)) (timeoutFailed NotNegotiated keepalive parent (noTimeoutResponse c))
 timeoutAnsweredBy NoTimeoutResponse keepalive parent c =
     cond (eqb (c .operation .«polls_left») 0) (timeoutUnanswered keepalive parent c) (timeoutPollParent keepalive parent c)
 
@@ -132,4 +116,4 @@ timeoutPollOn keepalive parent c = timeoutAnsweredBy (c .nlme .signals .«timeou
 -- the outcome of the request's send
 unfoldable pub timeoutRequestSent : Bool → Bool → Neighbor → Control → Decision
 timeoutRequestSent keepalive true parent c = timeoutPollOn keepalive parent c
-timeoutRequestSent keepalive false parent c = requestFailed keepalive parent c
+timeoutRequestSent keepalive false parent c = timeoutFailed NegotiationMacError keepalive parent c

@@ -9,6 +9,7 @@ use Rattle.nib.specs.declared.Neighbor.the-variants.{Absent, Entry}
 use Rattle.nib.specs.declared.ShortAddress.{ShortAddress}
 use Rattle.management.specs.declared.NlmeJoinRequest.{NlmeJoinRequest}
 use Rattle.management.specs.declared.NlmeJoinStatus.{NlmeJoinStatus}
+use Rattle.management.specs.declared.NegotiationAnswer.{NegotiationAnswer}
 use Rattle.management.specs.declared.PollAnswer.{PollAnswer}
 use Rattle.management.specs.declared.RejoinResponseSlot.{RejoinResponseSlot}
 use Rattle.management.specs.declared.RejoinResponseSlot.the-variants.{HasRejoinResponse, NoRejoinResponse}
@@ -24,7 +25,7 @@ use Rattle.join.specs.declared.AssociationResponse.{AssociationResponse}
 use Rattle.join.specs.declared.AssociationOutcome.{AssociationOutcome}
 use Rattle.join.specs.declared.AssociationOutcome.the-variants.{Associated, AssociationFailed}
 use Rattle.rejoin.specs.Rejoin.{invalid, trying, scanOrEnd, tryRemembered, rejoinStarted, tryCandidate, tryNext, tryFailed, rejoined, responded, polling, unanswered, pollParent, answeredBy, pollOn, requestSent}
-use Rattle.exchange.specs.Exchange.{sendStarted, dataSent, pollStarted, pollOver, notJoined, requestFailed, accepted, rejected, timeoutStarted, timeoutPolling, timeoutUnanswered, timeoutPollParent, timeoutAnsweredBy, timeoutPollOn, timeoutRequestSent}
+use Rattle.exchange.specs.Exchange.{sendStarted, dataSent, pollStarted, pollOver, accepted, timeoutFailed, timeoutStarted, timeoutPolling, timeoutUnanswered, timeoutPollParent, timeoutAnsweredBy, timeoutPollOn, timeoutRequestSent}
 use Rattle.steps.specs.Steps.{continuing}
 
 abbrev pub Made : Decision → Type 0
@@ -113,10 +114,14 @@ unfolding pollStarted
 pollStarted-made Absent c = refl
 pollStarted-made (Entry e) c = refl
 
+failed-made : (a : NegotiationAnswer) (k : Bool) (p : Neighbor) (c : Control) → Made (timeoutFailed a k p c)
+unfolding timeoutFailed
+failed-made a true p c = refl
+failed-made a false p c = refl
+
 pub timeout-made : (k : Bool) (p : Neighbor) (c : Control) → Made (timeoutStarted k p c)
-unfolding timeoutStarted notJoined
-timeout-made true Absent c = refl
-timeout-made false Absent c = refl
+unfolding timeoutStarted
+timeout-made k Absent c = failed-made _ k Absent _
 timeout-made k (Entry e) c = refl
 
 accepted-made : (k : Bool) (c : Control) → Made (accepted k c)
@@ -124,14 +129,9 @@ unfolding accepted
 accepted-made true c = refl
 accepted-made false c = refl
 
-rejected-made : (k : Bool) (p : Neighbor) (c : Control) → Made (rejected k p c)
-unfolding rejected
-rejected-made true p c = refl
-rejected-made false p c = refl
-
 timeoutUnanswered-made : (k : Bool) (p : Neighbor) (c : Control) → Made (timeoutUnanswered k p c)
 unfolding timeoutUnanswered
-timeoutUnanswered-made k p c = rejected-made k p _
+timeoutUnanswered-made k p c = failed-made _ k p _
 
 timeoutPoll-made : (k : Bool) (p : Neighbor) (c : Control) → Made (timeoutPollParent k p c)
 unfolding timeoutPollParent timeoutPolling
@@ -140,7 +140,7 @@ timeoutPoll-made k (Entry e) c = refl
 
 timeoutAnswered-made : (a : TimeoutResponseSlot) (k : Bool) (p : Neighbor) (c : Control) → Made (timeoutAnsweredBy a k p c)
 unfolding timeoutAnsweredBy
-timeoutAnswered-made (HasTimeoutResponse r) k p c = by-cases Made (eqb (r .status) 0) (λ _. accepted-made k _) (rejected-made k p _)
+timeoutAnswered-made (HasTimeoutResponse r) k p c = by-cases Made (eqb (r .status) 0) (λ _. accepted-made k _) (failed-made _ k p _)
 timeoutAnswered-made NoTimeoutResponse k p c = by-cases Made (eqb (c .operation .«polls_left») 0) (λ _. timeoutUnanswered-made k p c) (timeoutPoll-made k p c)
 
 timeoutPollOn-made : (k : Bool) (p : Neighbor) (c : Control) → Made (timeoutPollOn k p c)
@@ -148,10 +148,9 @@ unfolding timeoutPollOn
 timeoutPollOn-made k p c = timeoutAnswered-made (c .nlme .signals .«timeout_response») k p c
 
 pub timeoutSent-made : (k ok : Bool) (p : Neighbor) (c : Control) → Made (timeoutRequestSent k ok p c)
-unfolding timeoutRequestSent requestFailed
+unfolding timeoutRequestSent
 timeoutSent-made k true p c = timeoutPollOn-made k p c
-timeoutSent-made true false p c = refl
-timeoutSent-made false false p c = refl
+timeoutSent-made k false p c = failed-made _ k p c
 
 -- what a poll was for goes on
 pub continuing-made : (u : Purpose) (a : PollAnswer) (p x : Neighbor) (c : Control) → Made (continuing u a p x c)

@@ -1,42 +1,33 @@
 -- `data_sent` meets its contract. Assumes nothing.
-use Rattle.exchange.specs.Exchange.{dataSent}
-use mathlib.Core.Path.{sym, ap}
-use mathlib.Core.Bool.{Bool}
+use mathlib.Core.Path.{_≡_, refl}
+use mathlib.Core.Bool.{Bool, true, false, cond}
 use borrow.Author.Needs.{needs}
+use Rattle.nib.specs.declared.Neighbor.{Neighbor}
+use Rattle.nlme.specs.Nlme.{sentViaParent, failedViaParent}
+use Rattle.operation.specs.declared.Control.{Control}
+use Rattle.exchange.specs.Exchange.{viaParent, dataSent}
 use Rattle.exchange.proofs.data_sent.Statement.{statement}
 use Rattle.exchange.proofs.data_sent.Tie as tie
 
-sent-via-parent-requires : tie.Need-sent-via-parent-requires
-sent-via-parent-requires c κs = search needs
+either-way : (sent : Bool) (p : Neighbor) (c : Control) → viaParent (cond sent (sentViaParent p (c .nlme)) (failedViaParent p (c .nlme))) c ≡ dataSent sent p c
+unfolding dataSent
+either-way true p c = refl
+either-way false p c = refl
 
 via-parent-requires : tie.Need-via-parent-requires
 via-parent-requires c κs = search needs
 
+with-nlme-requires : tie.Need-with-nlme-requires
+with-nlme-requires c κs = search needs
+
+ending-requires : tie.Need-ending-requires
+ending-requires c κs = search needs
+
 returns : tie.Need-returns
-unfolding dataSent
 returns c =
-    let a = c .before .before .before .before .args in
-    rw (c .via-parent .ensures, c .before .sent-via-parent .ensures) (sym (ap (λ (x : Bool). dataSent x (a .parent) (a .control)) (c .before .before .if1 .taken)))
-
-failed-via-parent-requires : tie.Need-failed-via-parent-requires
-failed-via-parent-requires c κs = search needs
-
-via-parent-requires-2 : tie.Need-via-parent-requires-2
-via-parent-requires-2 c κs = search needs
-
-returns-2 : tie.Need-returns-2
-unfolding dataSent
-returns-2 c =
-    let a = c .before .before .before .before .args in
-    rw (c .via-parent2 .ensures, c .before .failed-via-parent .ensures) (sym (ap (λ (x : Bool). dataSent x (a .parent) (a .control)) (c .before .before .if1 .left)))
+    let a = c .before .before .before .args in
+    rw (c .ending .ensures, c .before .with-nlme .ensures, c .before .before .via-parent .ensures) (either-way (a .sent) (a .parent) (a .control))
 
 pub data-sent-spec : {M : Type 1} → statement M
 data-sent-spec =
-    tie.close
-    (tie.spec
-    sent-via-parent-requires
-    via-parent-requires
-    returns
-    failed-via-parent-requires
-    via-parent-requires-2
-    returns-2)
+    tie.close (tie.spec via-parent-requires with-nlme-requires ending-requires returns)

@@ -3,14 +3,19 @@ use borrow.Author.Needs.{needs}
 use Rattle.exchange.proofs.via_parent.Statement.{statement}
 use Rattle.exchange.proofs.via_parent.Tie as tie
 
-with-nlme-requires : tie.Need-with-nlme-requires
-with-nlme-requires c κs = search needs
-
-send-over-requires : tie.Need-send-over-requires
-send-over-requires c κs = search needs
+sent-via-parent-requires : tie.Need-sent-via-parent-requires
+sent-via-parent-requires c κs = search needs
 
 returns : tie.Need-returns
-returns c = rw (c .send-over .ensures, c .before .with-nlme .ensures)
+returns c = rw (c .sent-via-parent .ensures, c .before .if1 .taken)
+
+failed-via-parent-requires : tie.Need-failed-via-parent-requires
+failed-via-parent-requires c κs = search needs
+
+returns-2 : tie.Need-returns-2
+returns-2 c = rw (c .failed-via-parent .ensures, c .before .if1 .left)
 
 pub via-parent-spec : {M : Type 1} → statement M
-via-parent-spec = tie.close (tie.spec with-nlme-requires send-over-requires returns)
+via-parent-spec =
+    tie.close
+    (tie.spec sent-via-parent-requires returns failed-via-parent-requires returns-2)
