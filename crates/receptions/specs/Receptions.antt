@@ -1,5 +1,4 @@
--- What a poll or a receive brings, and what is decided once its frame is dealt with.
-use mathlib.Core.List.{List}
+-- What a poll or a receive brings, and what is decided once its frame is dealt with (01, "Received frame"; Zigbee 3.6.6).
 use Rattle.nib.specs.Neighbors.{entriesOf, tableOf}
 use Rattle.nib.specs.declared.NeighborTable.{NeighborTable}
 use Rattle.neighbor_table.specs.NeighborTable.{ieeeOf, onEntries, retained}
@@ -22,7 +21,7 @@ use Rattle.operation.specs.declared.Control.{Control}
 use Rattle.steps.specs.Steps.{receptionOver}
 use Rattle.receptions.specs.declared.FrameDecision.{FrameDecision}
 
--- nothing buffered is no error of a poll; a receive that brings nothing is a radio error
+-- nothing buffered is no error of a poll; a receive that brings nothing is a radio error (`poll_parent` and `receive_nwk_frame` of the source)
 unfoldable pub noData : Purpose → PollAnswer
 noData RejoinResponse = PollNothing
 noData SinglePoll = PollNothing
@@ -49,12 +48,12 @@ abbrev pub decidedOn : Then → NeighborTable → Candidates → Control → Fra
 decidedOn h t x c = record { table = t; decision = receptionOver h (parentIn (entriesOf t)) (nextIn (entriesOf t) x) c }
 
 -- a frame that has been dealt with
-abbrev pub dealtWith : Handled → NeighborTable → Candidates → Control → FrameDecision
-dealtWith h t x c = decidedOn (h .then) (changedBy (h .change) t) x (withNlme (h .nlme) c)
+abbrev pub frameDealtWith : Handled → NeighborTable → Candidates → Control → FrameDecision
+frameDealtWith h t x c = decidedOn (h .then) (changedBy (h .change) t) x (withNlme (h .nlme) c)
 
 -- a frame is dealt with once it has taught the table
 abbrev pub frameOn : ReceivedFrame → NeighborTable → Candidates → Control → FrameDecision
-frameOn f t x c = dealtWith (handled (parentIn (entriesOf t)) (ieeeOf 0xffff (entriesOf t)) f (c .nlme)) t x c
+frameOn f t x c = frameDealtWith (handled (parentIn (entriesOf t)) (ieeeOf 0xffff (entriesOf t)) f (c .nlme)) t x c
 
 abbrev pub frameReceived : ReceivedFrame → NeighborTable → Candidates → Control → FrameDecision
 frameReceived f t x c = frameOn f (onEntries (taught f) t) x c

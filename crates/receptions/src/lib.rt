@@ -4,10 +4,7 @@ ghost use Rattle.nib.specs.Neighbors.{entriesOf};
 ghost use Rattle.neighbor_table.specs.NeighborTable.{ieeeOf};
 ghost use Rattle.tries.specs.Tries.{parentIn};
 ghost use Rattle.received.specs.Received.{handled};
-ghost use Rattle.operation.specs.Operation.{withNlme, asking};
-ghost use Rattle.operation.specs.declared.Phase.the-variants.{LeaveSend};
-ghost use Rattle.operation.specs.declared.RadioRequest.the-variants.{Transmit};
-ghost use Rattle.steps.specs.Steps.{continuing, followed, receptionOverIn, receptionOver};
+ghost use Rattle.steps.specs.Steps.{continuing, followed, receptionOver};
 ghost use Rattle.receptions.specs.Receptions.{noData, noDataIn, changedBy, decidedOn, frameReceived};
 use frame::ReceivedFrame;
 use management::PollAnswer;
@@ -15,23 +12,14 @@ use nib::Neighbor;
 use nib::NeighborTable;
 use nib::ShortAddress;
 use nlme::Nlme;
-use nlme::Transmission;
 use operation::Control;
 use operation::Decision;
 use operation::Phase;
 use operation::Purpose;
-use operation::RadioRequest;
 use received::Handled;
 use received::TableChange;
 use received::Then;
 use tries::Candidates;
-
-fn with_nlme(control: Control, nlme: Nlme) -> Control
-    ensures { λ r. ⌜ r ≡ withNlme nlme control ⌝ }
-{
-    let operation = control.operation;
-    Control { nlme, operation }
-}
 
 // What a poll or a receive was for goes on.
 pub fn continuing(
@@ -44,29 +32,16 @@ pub fn continuing(
     ensures { λ r. ⌜ r ≡ continuing purpose answer parent next control ⌝ }
 {
     match purpose {
-        Purpose::RejoinResponse => rejoin_try::poll_on(parent, next, control),
-        Purpose::SinglePoll => exchange::poll_over(control, answer),
-        Purpose::SingleReceive => exchange::poll_over(control, answer),
-        Purpose::TimeoutResponse(keepalive) => negotiation::timeout_poll_on(
-            control,
-            keepalive,
-            parent,
-        ),
+        Purpose::RejoinResponse => return rejoin_try::poll_on(parent, next, control),
+        Purpose::SinglePoll => return exchange::poll_over(control, answer),
+        Purpose::SingleReceive => return exchange::poll_over(control, answer),
+        Purpose::TimeoutResponse(keepalive) => {
+            return negotiation::timeout_poll_on(control, keepalive, parent);
+        }
     }
 }
 
-fn announce(
-    purpose: Purpose,
-    transmission: Transmission,
-    rejoin: bool,
-    control: Control,
-) -> Decision
-    ensures { λ r. ⌜ r ≡ asking (LeaveSend purpose rejoin) (Transmit transmission) control ⌝ }
-{
-    let phase = Phase::LeaveSend(purpose, rejoin);
-    operation::asking(phase, RadioRequest::Transmit(transmission), control)
-}
-
+// A frame is dealt with: the poll goes on, or a leave is announced.
 fn followed(
     purpose: Purpose,
     then: Then,
@@ -77,23 +52,10 @@ fn followed(
     ensures { λ r. ⌜ r ≡ followed purpose then parent next control ⌝ }
 {
     match then {
-        Then::Over(answer) => continuing(purpose, answer, parent, next, control),
-        Then::Announce(transmission, rejoin) => announce(purpose, transmission, rejoin, control),
-    }
-}
-
-fn reception_over_in(
-    phase: Phase,
-    then: Then,
-    parent: Neighbor,
-    next: Neighbor,
-    control: Control,
-) -> Decision
-    ensures { λ r. ⌜ r ≡ receptionOverIn phase then parent next control ⌝ }
-{
-    match phase {
-        Phase::Reception(purpose) => followed(purpose, then, parent, next, control),
-        _ => steps::unawaited(control),
+        Then::Over(answer) => return continuing(purpose, answer, parent, next, control),
+        Then::Announce(frame, rejoin) => {
+            return operation::transmit(Phase::LeaveSend(purpose, rejoin), frame, control);
+        }
     }
 }
 
@@ -103,7 +65,10 @@ pub fn reception_over(then: Then, parent: Neighbor, next: Neighbor, control: Con
 {
     let operation = control.operation;
     let phase = operation.phase;
-    reception_over_in(phase, then, parent, next, control)
+    match phase {
+        Phase::Reception(purpose) => return followed(purpose, then, parent, next, control),
+        _ => return steps::unawaited(control),
+    }
 }
 
 // What a poll or a receive that brings nothing answers.
@@ -111,10 +76,10 @@ fn no_data(purpose: Purpose) -> PollAnswer
     ensures { λ r. ⌜ r ≡ noData purpose ⌝ }
 {
     match purpose {
-        Purpose::RejoinResponse => PollAnswer::PollNothing,
-        Purpose::SinglePoll => PollAnswer::PollNothing,
-        Purpose::SingleReceive => PollAnswer::PollMacError,
-        Purpose::TimeoutResponse(_) => PollAnswer::PollNothing,
+        Purpose::RejoinResponse => return PollAnswer::PollNothing,
+        Purpose::SinglePoll => return PollAnswer::PollNothing,
+        Purpose::SingleReceive => return PollAnswer::PollMacError,
+        Purpose::TimeoutResponse(_) => return PollAnswer::PollNothing,
     }
 }
 
@@ -122,8 +87,8 @@ pub fn no_data_in(phase: Phase) -> PollAnswer
     ensures { λ r. ⌜ r ≡ noDataIn phase ⌝ }
 {
     match phase {
-        Phase::Reception(purpose) => no_data(purpose),
-        _ => PollAnswer::PollNothing,
+        Phase::Reception(purpose) => return no_data(purpose),
+        _ => return PollAnswer::PollNothing,
     }
 }
 
@@ -137,12 +102,13 @@ fn heard(nlme: Nlme, table: NeighborTable, frame: ReceivedFrame) -> Handled
     received::process_received_nwk_frame(nlme, parent, broadcast, frame)
 }
 
+// What a frame does to the table.
 fn changed(change: TableChange, table: NeighborTable) -> NeighborTable
     ensures { λ r. ⌜ r ≡ changedBy change table ⌝ }
 {
     match change {
-        TableChange::KeepTable => table,
-        TableChange::RemoveNeighbor(address) => neighbor_table::retain(table, address),
+        TableChange::KeepTable => return table,
+        TableChange::RemoveNeighbor(address) => return neighbor_table::retain(table, address),
     }
 }
 
@@ -180,5 +146,10 @@ pub fn frame_received(
     let then = handled.then;
     let change = handled.change;
     let left = changed(change, taught);
-    decided(then, left, candidates, with_nlme(control, handled.nlme))
+    decided(
+        then,
+        left,
+        candidates,
+        operation::with_nlme(control, handled.nlme),
+    )
 }

@@ -1,7 +1,7 @@
--- What a scan leaves in the table and the candidates, what its confirm tells, and when its list is turned down.
+-- What a scan leaves in the table and the candidates, what its confirm tells, and when its list is turned down (01, "Neighbour entry", "When a call is turned down"; Zigbee 3.2.2.3).
 use Prim.Native.Nat.{ℕ}
-use mathlib.Core.Bool.{Bool, true, false, cond}
-use mathlib.Core.List.{List, [], map}
+use mathlib.Core.Bool.{Bool, true, false, not, _&&_, cond}
+use mathlib.Core.List.{[], map}
 use lib.Dec.{eqb, ltb}
 use lib.ListN.{take}
 use Rattle.nib.specs.Identifiers.{bit}
@@ -41,9 +41,7 @@ listRefusal l = cond (ltb 27 (l .count)) 3 (cond (ltb 16 (shortAddressed (descri
 -- only a discovery that is not turned down and has not failed tells of networks
 abbrev pub confirmFor : Phase → ℕ → Bool → PanDescriptorList → NlmeNetworkDiscoveryConfirm
 confirmFor p k failed l =
-    cond (eqb k 0)
-    (cond failed (confirmOf []) (cond (isDiscovery p) (confirmOf (map networkDescriptor (descriptorsOf l))) (confirmOf [])))
-    (confirmOf [])
+    cond (eqb k 0 && not failed && isDiscovery p) (confirmOf (map networkDescriptor (descriptorsOf l))) (confirmOf [])
 
 -- the table made from the scan; a discovery keeps the candidates, a rejoin chooses them anew
 abbrev pub heardBy : Bool → NeighborTable → Tables → Control → Tables

@@ -1,5 +1,6 @@
 // What a scan leaves in the table and the candidates, what its confirm tells, and when its list is turned down.
 ghost use mathlib.Core.Path.{_≡_};
+ghost use mathlib.Core.Bool.{false, cond};
 ghost use mathlib.Core.List.{[]};
 ghost use Rattle.discovery.specs.Discovery.{confirmOf};
 ghost use Rattle.scans.specs.Scans.{chosenIn, isDiscovery, listRefusal, confirmFor, afterScan};
@@ -109,7 +110,25 @@ pub fn confirm_of(
     no_networks()
 }
 
-// A failed scan leaves the table. A discovery keeps the candidates, a rejoin chooses them anew.
+// A discovery keeps the candidates, a rejoin chooses them anew from the table made from the scan.
+fn candidates_after(table: NeighborTable, kept: Candidates, control: Control) -> Candidates
+    ensures { λ r. ⌜ r ≡ cond (isDiscovery (control .operation .phase)) kept (chosenIn false (control .operation .«extended_pan_id» .0) (control .nlme .nib .«capability_information») (control .nlme .nib .«stack_profile») table) ⌝ }
+{
+    let operation = control.operation;
+    let phase = operation.phase;
+    if is_discovery(phase) {
+        return kept;
+    }
+    chosen(
+        table,
+        control.nlme.nib.stack_profile,
+        false,
+        operation.extended_pan_id,
+        control.nlme.nib.capability_information,
+    )
+}
+
+// A failed scan leaves the table.
 pub fn after_scan(failed: bool, list: PanDescriptorList, tables: Tables, control: Control) -> Tables
     ensures { λ r. ⌜ r ≡ afterScan failed list tables control ⌝ }
 {
@@ -117,19 +136,6 @@ pub fn after_scan(failed: bool, list: PanDescriptorList, tables: Tables, control
         return tables;
     }
     let table = discovery::neighbor_table_from(list);
-    let operation = control.operation;
-    let phase = operation.phase;
-    if is_discovery(phase) {
-        let candidates = tables.candidates;
-        return Tables { table, candidates };
-    }
-    let nib = control.nlme.nib;
-    let candidates = chosen(
-        table,
-        nib.stack_profile,
-        false,
-        control.operation.extended_pan_id,
-        nib.capability_information,
-    );
+    let candidates = candidates_after(table, tables.candidates, control);
     Tables { table, candidates }
 }

@@ -3,22 +3,15 @@ ghost use mathlib.Core.Path.{_≡_};
 ghost use Rattle.management.specs.declared.PollAnswer.the-variants.{PollNothing};
 ghost use Rattle.received.specs.Received.{leaveAnnounced};
 ghost use Rattle.operation.specs.Operation.{withNlme};
-ghost use Rattle.steps.specs.Steps.{continuing, transmissionOverIn, transmissionOver, leavesNetwork};
+ghost use Rattle.steps.specs.Steps.{continuing, transmissionOver, leavesNetwork};
 use management::PollAnswer;
 use nib::Neighbor;
-use nlme::Nlme;
 use operation::Control;
 use operation::Decision;
 use operation::Phase;
 use operation::Purpose;
 
-fn with_nlme(control: Control, nlme: Nlme) -> Control
-    ensures { λ r. ⌜ r ≡ withNlme nlme control ⌝ }
-{
-    let operation = control.operation;
-    Control { nlme, operation }
-}
-
+// A leave is announced: what the poll was for goes on.
 fn leave_over(
     purpose: Purpose,
     rejoin: bool,
@@ -34,31 +27,8 @@ fn leave_over(
         PollAnswer::PollNothing,
         parent,
         next,
-        with_nlme(control, nlme),
+        operation::with_nlme(control, nlme),
     )
-}
-
-fn transmission_over_in(
-    phase: Phase,
-    sent: bool,
-    parent: Neighbor,
-    next: Neighbor,
-    control: Control,
-) -> Decision
-    ensures { λ r. ⌜ r ≡ transmissionOverIn phase sent parent next control ⌝ }
-{
-    match phase {
-        Phase::RejoinSend => rejoin_try::request_sent(sent, parent, next, control),
-        Phase::DataSend => exchange::data_sent(control, sent, parent),
-        Phase::TimeoutSend(keepalive) => negotiation::timeout_request_sent(
-            control,
-            keepalive,
-            sent,
-            parent,
-        ),
-        Phase::LeaveSend(purpose, rejoin) => leave_over(purpose, rejoin, parent, next, control),
-        _ => steps::unawaited(control),
-    }
 }
 
 // The outcome of a transmission.
@@ -67,7 +37,17 @@ pub fn transmission_over(sent: bool, parent: Neighbor, next: Neighbor, control: 
 {
     let operation = control.operation;
     let phase = operation.phase;
-    transmission_over_in(phase, sent, parent, next, control)
+    match phase {
+        Phase::RejoinSend => return rejoin_try::request_sent(sent, parent, next, control),
+        Phase::DataSend => return exchange::data_sent(control, sent, parent),
+        Phase::TimeoutSend(keepalive) => {
+            return negotiation::timeout_request_sent(control, keepalive, sent, parent);
+        }
+        Phase::LeaveSend(purpose, rejoin) => {
+            return leave_over(purpose, rejoin, parent, next, control);
+        }
+        _ => return steps::unawaited(control),
+    }
 }
 
 // Whether the transmission under way is a leave's without the rejoin bit.
@@ -75,7 +55,7 @@ pub fn leaves_network(phase: Phase) -> bool
     ensures { λ r. ⌜ r ≡ leavesNetwork phase ⌝ }
 {
     match phase {
-        Phase::LeaveSend(_, rejoin) => !rejoin,
-        _ => false,
+        Phase::LeaveSend(_, rejoin) => return !rejoin,
+        _ => return false,
     }
 }

@@ -1,4 +1,4 @@
--- The candidate being tried and the next one (01, "Join request and confirm"). `es` is the list of the table's entries.
+-- The candidate being tried and the next one (01, "Join request and confirm"; Zigbee 3.6.1.4.1.1 for a join, 3.6.1.4.2 for a rejoin). `es` is the list of the table's entries.
 use Prim.Native.Nat.{ℕ, _+_, _-_, min}
 use mathlib.Core.Bool.{Bool, cond, not}
 use mathlib.Core.List.{List}
@@ -46,7 +46,7 @@ strays n c = some (λ i. not (ltb i n)) (drop (c .taken - 1) (itemsOf (c .list))
 
 -- Writing
 
--- the next candidate is taken, those before it skipped
+-- the next candidate is taken, those before it skipped; the count of those taken is a byte, and 255 stays (refusal 5 turns any above 16 down)
 unfoldable pub taking : ℕ → Candidates → Candidates
 taking n c = record { list = c .list; taken = min (c .taken + skipped n c + 1) 255 }
 

@@ -1,12 +1,12 @@
 // The candidates of an operation: which one is being tried, which comes next, and what a try writes to the neighbour table.
 ghost use mathlib.Core.Path.{_≡_};
-ghost use Prim.Native.Nat.{_+_, _-_};
+ghost use Prim.Native.Nat.{_+_};
 ghost use lib.ListN.{length, drop, getD};
 ghost use Rattle.lists.specs.Lists.{firstIndex};
 ghost use Rattle.nib.specs.Neighbors.{entriesOf};
 ghost use Rattle.neighbor_table.specs.NeighborTable.{onEntries};
 ghost use Rattle.candidates.specs.Candidates.{itemsOf};
-ghost use Rattle.tries.specs.Tries.{parentIn, triedIndex, triedIn, nextIndex, nextIn, skipped, strays, taking, adoptedNext, joinedTried, barredTried, within};
+ghost use Rattle.tries.specs.Tries.{parentIn, triedIndex, triedIn, nextIndex, nextIn, strays, taking, adoptedNext, joinedTried, barredTried, within};
 use candidates::CandidateList;
 use neighbor_table::adopt_parent;
 use neighbor_table::clear_beacon_fields;
@@ -28,7 +28,10 @@ fn in_use(list: CandidateList) -> u8
     ensures { λ r. ⌜ r ≡ length (itemsOf list) ⌝ }
 {
     let count = list.count;
-    if count <= 16 { count } else { 16 }
+    if count <= 16 {
+        return count;
+    }
+    16
 }
 
 // The index at a place of a list, 255 past its end.
@@ -43,31 +46,21 @@ fn index_at(list: CandidateList, place: u8) -> u8
     list.indexes[at]
 }
 
-// Whether an index is below a limit, or that it is not.
-fn is_within(index: u8, limit: u8, below: bool) -> bool
-    ensures { λ r. ⌜ r ≡ within below limit index ⌝ }
-{
-    if below {
-        return index < limit;
-    }
-    !(index < limit)
-}
-
-// How many indexes from a place on stand before the first that is below a limit, or before the first that is not.
+// The place of the first index from a place on that is below a limit, or of the first that is not.
 fn first_from(list: CandidateList, from: u8, limit: u8, below: bool) -> u8
-    ensures { λ r. ⌜ r ≡ firstIndex (within below limit) (drop from (itemsOf list)) ⌝ }
+    ensures { λ r. ⌜ r ≡ from + firstIndex (within below limit) (drop from (itemsOf list)) ⌝ }
 {
     let count = in_use(list);
     let mut place = from;
     while place < count {
         let at = place as usize;
         let index = list.indexes[at];
-        if is_within(index, limit, below) {
-            return place - from;
+        if (index < limit) == below {
+            return place;
         }
         place += 1;
     }
-    place - from
+    place
 }
 
 fn tried_index(candidates: Candidates) -> u8
@@ -80,19 +73,11 @@ fn tried_index(candidates: Candidates) -> u8
     index_at(candidates.list, taken - 1)
 }
 
-// The place of the next index to be tried in a table of `count` entries.
-fn next_place(count: u8, candidates: Candidates) -> u8
-    ensures { λ r. ⌜ r ≡ candidates .taken + skipped count candidates ⌝ }
-{
-    let taken = candidates.taken;
-    let skipped = first_from(candidates.list, taken, count, true);
-    taken + skipped
-}
-
+// The next index to be tried in a table of `count` entries: those not below it are skipped.
 fn next_index(count: u8, candidates: Candidates) -> u8
     ensures { λ r. ⌜ r ≡ nextIndex count candidates ⌝ }
 {
-    let place = next_place(count, candidates);
+    let place = first_from(candidates.list, candidates.taken, count, true);
     index_at(candidates.list, place)
 }
 
@@ -120,38 +105,30 @@ pub fn next(table: NeighborTable, candidates: Candidates) -> Neighbor
     seen(table, table.get(index))
 }
 
-// The place of the index being tried, the first place where none has been taken.
-fn last_place(taken: u8) -> u8
-    ensures { λ r. ⌜ r ≡ taken - 1 ⌝ }
-{
-    if taken == 0 { 0 } else { taken - 1 }
-}
-
 // Whether an index being tried or still to be tried is not below a count.
 pub fn strays(count: u8, candidates: Candidates) -> bool
     ensures { λ r. ⌜ r ≡ strays count candidates ⌝ }
 {
     let list = candidates.list;
-    let from = last_place(candidates.taken);
     let length = in_use(list);
-    if length <= from {
-        return false;
+    let taken = candidates.taken;
+    if taken == 0 {
+        return first_from(list, 0, count, false) < length;
     }
-    first_from(list, from, count, false) < length - from
+    first_from(list, taken - 1, count, false) < length
 }
 
 // The next candidate is taken.
 pub fn take_next(table: NeighborTable, candidates: Candidates) -> Candidates
     ensures { λ r. ⌜ r ≡ taking (length (entriesOf table)) candidates ⌝ }
 {
-    let count = table.len();
-    let place = next_place(count, candidates);
+    let next = first_from(candidates.list, candidates.taken, table.len(), true);
     let mut out = candidates;
-    if place == 255 {
+    if next == 255 {
         out.taken = 255;
         return out;
     }
-    out.taken = place + 1;
+    out.taken = next + 1;
     out
 }
 

@@ -7,19 +7,19 @@ use Rattle.receptions.proofs.changed.Tie as tie
 enum-told : tie.Need-enum-told
 enum-told c = search needs
 
+returns : tie.Need-returns
+unfolding changedBy
+returns c = rw (c .enum-told .given .1)
+
 enum-known-change : tie.Need-enum-known-change
 enum-known-change c = search needs
 
 retain-requires : tie.Need-retain-requires
 retain-requires c κs = search needs
 
-returns : tie.Need-returns
-unfolding changedBy
-returns c = rw (c .enum-told .given .1)
-
 returns-2 : tie.Need-returns-2
 unfolding changedBy
 returns-2 c = rw (c .before .before .change .given .1) (c .retain .ensures)
 
 pub changed-spec : {M : Type 1} → statement M
-changed-spec = tie.close (tie.spec enum-told enum-known-change retain-requires returns returns-2)
+changed-spec = tie.close (tie.spec enum-told returns enum-known-change retain-requires returns-2)

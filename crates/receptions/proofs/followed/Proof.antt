@@ -10,27 +10,21 @@ enum-known-then c = search needs
 continuing-requires : tie.Need-continuing-requires
 continuing-requires c κs = search needs
 
-enum-known-then-2 : tie.Need-enum-known-then-2
-enum-known-then-2 c = search needs
-
-announce-requires : tie.Need-announce-requires
-announce-requires c κs = search needs
-
 returns : tie.Need-returns
 unfolding followed
 returns c = rw (c .before .before .then .given .1) (c .continuing .ensures)
 
+enum-known-then-2 : tie.Need-enum-known-then-2
+enum-known-then-2 c = search needs
+
+transmit-requires : tie.Need-transmit-requires
+transmit-requires c κs = search needs
+
 returns-2 : tie.Need-returns-2
 unfolding followed
-returns-2 c = rw (c .before .before .then2 .given .1) (c .announce .ensures)
+returns-2 c = rw (c .before .before .then2 .given .1) (c .transmit .ensures)
 
 pub followed-spec : {M : Type 1} → statement M
 followed-spec =
     tie.close
-    (tie.spec
-    enum-known-then
-    continuing-requires
-    enum-known-then-2
-    announce-requires
-    returns
-    returns-2)
+    (tie.spec enum-known-then continuing-requires returns enum-known-then-2 transmit-requires returns-2)

@@ -7,18 +7,18 @@ use borrow.Author.Needs.{needs}
 use Rattle.tries.proofs.next_index.Statement.{statement}
 use Rattle.tries.proofs.next_index.Tie as tie
 
-next-place-requires : tie.Need-next-place-requires
-next-place-requires c κs = search needs
+first-from-requires : tie.Need-first-from-requires
+first-from-requires c κs = search needs
 
 index-at-requires : tie.Need-index-at-requires
 index-at-requires c κs = search needs
 
 returns : tie.Need-returns
-unfolding nextIndex
+unfolding nextIndex skipped
 returns c =
     let a = c .before .before .args in
-    rw (c .index-at .ensures, c .before .next-place .ensures)
+    rw (c .index-at .ensures, c .before .first-from .ensures)
     (sym (getD-drop (a .candidates .taken) (itemsOf (a .candidates .list)) (skipped (a .count) (a .candidates)) 255))
 
 pub next-index-spec : {M : Type 1} → statement M
-next-index-spec = tie.close (tie.spec next-place-requires index-at-requires returns)
+next-index-spec = tie.close (tie.spec first-from-requires index-at-requires returns)

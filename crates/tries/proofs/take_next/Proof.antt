@@ -16,27 +16,27 @@ takenTo k c = record { list = c .list; taken = k }
 len-requires : tie.Need-len-requires
 len-requires c κs = search needs
 
-next-place-requires : tie.Need-next-place-requires
-next-place-requires c κs = search needs
+first-from-requires : tie.Need-first-from-requires
+first-from-requires c κs = search needs
 
 returns : tie.Need-returns
-unfolding taking
+unfolding taking skipped
 returns c =
     let a = c .before .before .before .args in
     let e : 255 ≡ min (a .candidates .taken + skipped (length (entriesOf (a .table))) (a .candidates) + 1) 255 =
-    rw (← c .before .before .len .ensures) (omega (arith, c .before .next-place .ensures)) in
+    rw (← c .before .before .len .ensures) (omega (arith, c .before .first-from .ensures)) in
     ap (λ (k : ℕ). takenTo k (a .candidates)) e
 
 add-out : tie.Need-add-out
 add-out c = search needs
 
 returns-2 : tie.Need-returns-2
-unfolding taking
+unfolding taking skipped
 returns-2 c =
     let a = c .before .before .before .args in
-    let e : c .before .next-place .result + 1 ≡ min (a .candidates .taken + skipped (length (entriesOf (a .table))) (a .candidates) + 1) 255 =
-    rw (← c .before .before .len .ensures) (omega (arith, c .before .next-place .ensures)) in
+    let e : c .before .first-from .result + 1 ≡ min (a .candidates .taken + skipped (length (entriesOf (a .table))) (a .candidates) + 1) 255 =
+    rw (← c .before .before .len .ensures) (omega (arith, c .before .first-from .ensures)) in
     ap (λ (k : ℕ). takenTo k (a .candidates)) e
 
 pub take-next-spec : {M : Type 1} → statement M
-take-next-spec = tie.close (tie.spec len-requires next-place-requires returns add-out returns-2)
+take-next-spec = tie.close (tie.spec len-requires first-from-requires returns add-out returns-2)
