@@ -4,7 +4,7 @@ ghost use mathlib.Core.Bool.{true, false};
 ghost use lib.Dec.{eqb};
 ghost use Rattle.operation.specs.Operation.{awaited};
 ghost use Rattle.node.specs.Looks.{withControl, withTable, withCandidates, parent, next, moved, barred, finish};
-ghost use Rattle.node.specs.Refusals.{refuse, bad, startOrRefusal, outcomeOrRefusal, otherOrRefusal};
+ghost use Rattle.node.specs.Refusals.{refuse, bad, startOrRefusal, otherOrRefusal};
 ghost use Rattle.node.specs.Calls.{deciding, startDiscovery, startJoin, startSend, startPoll, startReceive, startTimeout, scanned, associationOver, receptionOver, transmissionOver, tick, takeLeaveIndication, takeStatusIndication, choose};
 ghost use Rattle.node.specs.Parts.{tablesOf, withTables, refusalOf, closed, scanRefusal, scanDecided, nothingReceived, dealtOn, leftAfter};
 use candidates::CandidateList;
@@ -234,13 +234,6 @@ impl State {
         self.closed(self.refusal(0, 1), changed, false, decision)
     }
 
-    // The outcome of a kind.
-    fn ending(self, kind: u8, decision: Decision) -> Answer
-        ensures { λ r. ⌜ r ≡ outcomeOrRefusal (eqb (awaited (self .control .operation .phase)) kind) self (deciding self decision) ⌝ }
-    {
-        self.closed(self.refusal(kind, 2), self, false, decision)
-    }
-
     // A tick or a taking.
     fn always(self, decision: Decision) -> Answer
         ensures { λ r. ⌜ r ≡ otherOrRefusal self (deciding self decision) ⌝ }
@@ -346,7 +339,7 @@ impl State {
     {
         let tried = tries::tried(self.table, self.candidates);
         let decision = join::association_over(self.control, outcome, tried, self.next());
-        self.ending(2, decision)
+        self.closed(self.refusal(2, 2), self, false, decision)
     }
 
     fn nothing_received(self, answer: PollAnswer) -> Answer
@@ -354,7 +347,7 @@ impl State {
     {
         let then = Then::Over(answer);
         let decision = receptions::reception_over(then, self.parent(), self.next(), self.control);
-        self.ending(4, decision)
+        self.closed(self.refusal(4, 2), self, false, decision)
     }
 
     fn dealt_with(self, dealt: FrameDecision) -> Answer
@@ -416,7 +409,7 @@ impl State {
             self.next(),
             self.control,
         );
-        self.ending(3, decision)
+        self.closed(self.refusal(3, 2), self, false, decision)
     }
 }
 

@@ -4,7 +4,7 @@ use mathlib.Core.Bool.{cond}
 use Rattle.operation.specs.Operation.{awaitsTransmission}
 use Rattle.steps.specs.Steps.{leavesNetwork}
 use Rattle.node.specs.declared.Answer.{Answer}
-use Rattle.node.specs.Refusals.{refuse, bad, otherOrRefusal, outcomeOrRefusal}
+use Rattle.node.specs.Refusals.{refuse, bad, otherOrRefusal}
 use Rattle.node.specs.Calls.{transmissionOver}
 use Rattle.node.proofs.Guards.{guarded}
 use Rattle.node.proofs.Closing.{sent-is, left-is}
@@ -34,12 +34,15 @@ next-requires c κs = search needs
 transmission-over-requires : tie.Need-transmission-over-requires
 transmission-over-requires c κs = search needs
 
-ending-requires : tie.Need-ending-requires
-ending-requires c κs = search needs
+refusal-requires : tie.Need-refusal-requires
+refusal-requires c κs = search needs
+
+closed-requires : tie.Need-closed-requires
+closed-requires c κs = search needs
 
 returns-2 : tie.Need-returns-2
-unfolding transmissionOver otherOrRefusal outcomeOrRefusal
-returns-2 c = let a = c .before .before .before .before .before .before .before .args in rw (c .ending .ensures, c .before .transmission-over .ensures, c .before .before .next .ensures, c .before .before .before .parent .ensures) (ap (λ (x : Answer). cond (bad (a .self)) (refuse 5 (a .self)) x) (sent-is (a .self .control .operation .phase) (a .sent) (a .self) (sym (c .before .before .before .before .before .leaves-network .ensures ∙ ap leavesNetwork (c .before .before .before .before .before .before .phase .ensures)) ∙ c .before .before .before .before .if1 .left)))
+unfolding transmissionOver otherOrRefusal
+returns-2 c = let a = c .before .before .before .before .before .before .before .before .args in rw (c .closed .ensures, c .before .refusal .ensures, c .before .before .transmission-over .ensures, c .before .before .before .next .ensures, c .before .before .before .before .parent .ensures) (guarded (a .self) (awaitsTransmission (a .self .control .operation .phase)) 2 refl refl ∙ ap (λ (x : Answer). cond (bad (a .self)) (refuse 5 (a .self)) x) (sent-is (a .self .control .operation .phase) (a .sent) (a .self) (sym (c .before .before .before .before .before .before .leaves-network .ensures ∙ ap leavesNetwork (c .before .before .before .before .before .before .before .phase .ensures)) ∙ c .before .before .before .before .before .if1 .left)))
 
 pub transmission-over-spec : {M : Type 1} → statement M
 transmission-over-spec =
@@ -52,5 +55,6 @@ transmission-over-spec =
     parent-requires
     next-requires
     transmission-over-requires
-    ending-requires
+    refusal-requires
+    closed-requires
     returns-2)
