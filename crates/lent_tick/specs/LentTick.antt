@@ -1,4 +1,4 @@
--- A tick over a lent timer record (01, "Supervision record": "The timer interrupt lends its record and finds it updated there").
+-- A tick over a lent timer record (01, "Supervision record": "The timer interrupt lends its record and finds it updated there"; Zigbee 3.6.10.6).
 use Prim.Native.Nat.{ℕ}
 use mathlib.Core.Bool.{cond}
 use Rattle.parent_timer.specs.declared.ParentTimer.{ParentTimer}

@@ -72,7 +72,7 @@ deciding s d = finish false s d
 unfoldable pub startDiscovery : ScanRange → State → Answer
 startDiscovery r s = startOrRefusal s (deciding s (asking phase.Discovery (Scan r) (s .control)))
 
--- Join and rejoin (01, "Join request and confirm")
+-- Join and rejoin (01, "Join request and confirm"; Zigbee 3.2.2.13)
 
 -- the candidates chosen from the present table, none of them taken
 unfoldable pub chosen : Bool → ℕ → CapabilityInformation → State → Candidates
@@ -178,7 +178,7 @@ unfoldable pub associationOver : AssociationOutcome → State → Answer
 associationOver o s =
     outcomeOrRefusal (awaitsAssociation (s .control .operation .phase)) s (deciding s (associated o (tried s) (next s) (s .control)))
 
--- The outcome of a poll or a receive (01, "Received frame")
+-- The outcome of a poll or a receive (01, "Received frame"; Zigbee 3.6.6): 5; a phase that awaits no such outcome gives 2
 
 abbrev pub goOn : Bool → Purpose → PollAnswer → State → Answer
 goOn reset p a s = finish reset s (continuing p a (parent s) (next s) (s .control))
@@ -223,7 +223,7 @@ receivedIn (phase.LeaveSend p r) o s = refuse 2 s
 unfoldable pub receptionOver : ReceptionOutcome → State → Answer
 receptionOver o s = otherOrRefusal s (receivedIn (s .control .operation .phase) o s)
 
--- The outcome of a transmission
+-- The outcome of a transmission: 5; a phase that awaits no such outcome gives 2
 
 -- after the announcement of a leave; without the rejoin bit the table is cleared and what lies outside this part is reset
 unfoldable pub afterLeave : Bool → State → State
@@ -255,7 +255,7 @@ clockedBy t s = saying (Expired (t .expired)) (withNode (t .nlme) s)
 unfoldable pub tick : ℕ → State → Answer
 tick elapsed s = otherOrRefusal s (clockedBy (nlmeTicked (parent s) elapsed (s .control .nlme)) s)
 
--- "Each indication slot keeps the newest value until taken"
+-- "Each indication slot keeps the newest value until taken" (Zigbee 3.2.2.19 and 3.2.2.32)
 unfoldable pub takeLeaveIndication : State → Answer
 takeLeaveIndication s =
     otherOrRefusal s

@@ -56,7 +56,7 @@ moved JoinTried s = withTable (onEntries (joinedTried (s .candidates)) (s .table
 unfoldable pub barred : Bool → State → State
 barred b s = cond b (withTable (onEntries (barredTried (s .candidates)) (s .table)) s) s
 
--- a decision carried out
+-- a decision carried out; `reset` is the reset note (01, "Received frame")
 unfoldable pub finish : Bool → State → Decision → Answer
 finish reset s d =
     record {

@@ -1,4 +1,5 @@
--- The polls that a step of a rejoin reports, beside those that it requests (01, "A try is one send and at most 20 polls").
+-- The polls that a step of a rejoin reports, beside those that it requests (01, "Join request and confirm" and "Code places and language
+-- forms": "A try is one send and at most 20 polls").
 use Prim.Native.Nat.{ℕ}
 use mathlib.Core.Path.{_≡_}
 use Rattle.nib.specs.declared.NwkNeighbor.{NwkNeighbor}

@@ -79,16 +79,17 @@ pub data AlikeCalls (n : ℕ) : List Call → List Call → Type 0 where
 abbrev pub Busy : State → Type 0
 Busy s = isIdle (s .control .operation .phase) ≡ false
 
--- a leave command is handled where a poll or receive is awaited; until the indexes follow a removal, the claim is made for lists in which none is
-abbrev pub Unheeded : State → Type 0
-Unheeded s = awaitsReception (s .control .operation .phase) ≡ false
+-- the premise that no leave command is handled: a removal moves later entries up, so that an index still to be tried names another entry (`left-with`,
+-- proofs/Examples.antt). A leave is handled where a poll or receive is awaited
+abbrev pub NoReceptionAwaited : State → Type 0
+NoReceptionAwaited s = awaitsReception (s .control .operation .phase) ≡ false
 
 abbrev pub NoLeaveFrame : State → ReceivedFrame → Type 0
 NoLeaveFrame s Undecodable = Unit {0}
 NoLeaveFrame s (Data f) = Unit {0}
 NoLeaveFrame s (RejoinResponseCommand f r) = Unit {0}
 NoLeaveFrame s (TimeoutResponseCommand f r) = Unit {0}
-NoLeaveFrame s (LeaveCommand f d o) = Unheeded s
+NoLeaveFrame s (LeaveCommand f d o) = NoReceptionAwaited s
 NoLeaveFrame s (OtherCommand f) = Unit {0}
 NoLeaveFrame s OtherFrame = Unit {0}
 
