@@ -4,7 +4,6 @@ use mathlib.Core.Bool.{Bool, true, false, cond, not}
 use mathlib.Core.List.{List, [], map}
 use lib.Dec.{eqb, ltb}
 use lib.ListN.{take}
-use Rattle.nib.specs.Identifiers.{bit}
 use Rattle.nib.specs.Neighbors.{tableOf}
 use Rattle.nib.specs.declared.CapabilityInformation.{CapabilityInformation}
 use Rattle.nib.specs.declared.ShortAddress.{ShortAddress}
@@ -37,7 +36,6 @@ use Rattle.received.specs.declared.Handled.{Handled}
 use Rattle.operation.specs.Operation.{withNlme, asking, awaitsScan, awaitsAssociation}
 use Rattle.operation.specs.Operation as operation
 use Rattle.operation.specs.declared.Purpose.{Purpose}
-use Rattle.operation.specs.declared.Purpose.the-variants.{RejoinResponse, SinglePoll, SingleReceive, TimeoutResponse}
 use Rattle.operation.specs.declared.Phase.{Phase}
 use Rattle.operation.specs.declared.Phase.the-variants as phase
 use Rattle.operation.specs.declared.RadioRequest.the-variants.{Scan, Transmit}
@@ -50,6 +48,7 @@ use Rattle.join.specs.declared.AssociationOutcome.{AssociationOutcome}
 use Rattle.rejoin.specs.Rejoin.{rejoinStarted, tryNext, requestSent}
 use Rattle.exchange.specs.Exchange.{sendStarted, dataSent, pollStarted, receiveStarted, timeoutStarted, timeoutRequestSent}
 use Rattle.steps.specs.Steps.{continuing}
+use Rattle.scans.specs.Scans.{chosenIn}
 use Rattle.receptions.specs.Receptions.{noData}
 use Rattle.tries.specs.declared.Candidates.{Candidates}
 use Rattle.node.specs.declared.State.{State}
@@ -76,8 +75,7 @@ startDiscovery r s = startOrRefusal s (deciding s (asking phase.Discovery (Scan 
 
 -- the candidates chosen from the present table, none of them taken
 unfoldable pub chosen : Bool → ℕ → CapabilityInformation → State → Candidates
-chosen permit n i s =
-    record { list = listOf (candidates (s .control .nlme .nib .«stack_profile») (bit 1 (i .0)) permit n (entries s)); taken = 0 }
+chosen permit n i s = chosenIn permit n i (s .control .nlme .nib .«stack_profile») (s .table)
 
 abbrev pub withChosen : Bool → ℕ → CapabilityInformation → State → State
 withChosen permit n i s = withCandidates (chosen permit n i s) s
