@@ -1,5 +1,5 @@
 -- What a received frame does (01, "Received frame"; Zigbee 3.4 and 3.6.1.10). The parent is the first entry with relationship PARENT, its IEEE address
--- the one known of its short address; `all` is the IEEE address known of the broadcast address 0xffff.
+-- the one known of its short address; `broadcastIeee` is the IEEE address known of the broadcast address 0xffff.
 use Prim.Native.Nat.{ℕ}
 use mathlib.Core.Bool.{Bool, true, false, cond, not, _&&_}
 use mathlib.Core.List.{List}
@@ -48,15 +48,15 @@ taught (LeaveCommand s d o) es = taughtBy (s .ieee) (s .address) es
 taught (OtherCommand s) es = taughtBy (s .ieee) (s .address) es
 taught OtherFrame es = es
 
--- "A rejoin response of status 0 sets the network address"; every one fills its slot (Zigbee 3.4.7.3)
+-- "A rejoin response of status 0 sets the network address"; every one fills its slot, asked for or not (`handle_nwk_command` of the source; Zigbee 3.4.7.3.1)
 abbrev pub rejoinSignalled : RejoinResponse → Nlme → Nlme
 rejoinSignalled r n = withSignals (withRejoinResponse (HasRejoinResponse r) (n .signals)) n
 
 unfoldable pub rejoinResponded : RejoinResponse → Nlme → Nlme
-rejoinResponded r n =
-    cond (eqb (r .status) 0) (rejoinSignalled r (withNib (withAddress (r .«network_address») (n .nib)) n)) (rejoinSignalled r n)
+rejoinResponded r n = rejoinSignalled r (cond (eqb (r .status) 0) (withNib (withAddress (r .«network_address») (n .nib)) n) n)
 
--- "A timeout response uses up the pending index; with status 0 and a pending index it stores both and restarts the timer"; every one fills its slot (Zigbee 3.6.10.2)
+-- "A timeout response uses up the pending index; with status 0 and a pending index it stores both and restarts the timer"; every one fills its slot,
+-- asked for or not (`handle_nwk_command` of the source; Zigbee 3.6.10.2 and 3.6.10.3)
 abbrev pub timeoutSignalled : EndDeviceTimeoutResponse → Nlme → Nlme
 timeoutSignalled r n = withSignals (withTimeoutResponse (HasTimeoutResponse r) (n .signals)) (withPending 0xff n)
 
@@ -65,21 +65,19 @@ stored information n = refreshed (withNib (withNegotiated information (n .«pend
 
 unfoldable pub timeoutResponded : EndDeviceTimeoutResponse → Nlme → Nlme
 timeoutResponded r n =
-    cond (eqb (r .status) 0 && not (eqb (n .«pending_timeout_request») 0xff))
-    (timeoutSignalled r (stored (r .«parent_information») n))
-    (timeoutSignalled r n)
+    timeoutSignalled r (cond (eqb (r .status) 0 && not (eqb (n .«pending_timeout_request») 0xff)) (stored (r .«parent_information») n) n)
 
 -- whether a frame is the parent's
 abbrev pub fromParent : Neighbor → ShortAddress → Bool
 fromParent Absent a = false
 fromParent (Entry p) a = eqb (p .«network_address» .0) (a .0)
 
--- the leave indication; no device address means this device (Zigbee 3.2.2.19)
+-- the leave indication. No device address means this device (Zigbee 3.2.2.19), but stands for a neighbour too whose frame has none (docs/DIFFERENCES.md)
 abbrev pub leaveIndicated : OptionalIeee → Bool → Nlme → Nlme
 leaveIndicated device rejoin n =
     withSignals (withLeaveIndication (HasLeaveIndication (record { «device_address» = device; rejoin = rejoin })) (n .signals)) n
 
--- "Leave without the request bit": "From the parent it zeroes the extended PAN id and indicates no device address; from another it indicates the sender's IEEE address"
+-- "Leave without the request bit": "From the parent it zeroes the extended PAN id and indicates no device address; from another it indicates the sender's IEEE address, or none if the frame has none"
 unfoldable pub neighborLeft : Neighbor → Source → Bool → Nlme → Nlme
 neighborLeft parent s rejoin n =
     cond (fromParent parent (s .address))
@@ -98,37 +96,38 @@ abbrev pub leaveTo : Nlme → ShortAddress → OptionalIeee → Bool → Bool �
 leaveTo n to ieee rejoin children = transmission n to (Leave (commandHeader n to ieee true) rejoin children)
 
 unfoldable pub announcement : Nlme → Neighbor → OptionalIeee → LeaveOptions → Transmission
-announcement n parent all o =
+announcement n parent broadcastIeee o =
     cond (bit 1 (n .nib .«capability_information» .0))
-    (leaveTo n (record { 0 = 0xffff }) all (o .rejoin) (o .«remove_children»))
+    (leaveTo n (record { 0 = 0xffff }) broadcastIeee (o .rejoin) (o .«remove_children»))
     (leaveTo n (parentAddress parent) (knownIeee parent) (o .rejoin) false)
 
 -- a frame that is dealt with: the table as it is, and what a single poll or receive answers
 abbrev pub dealtWith : Nlme → PollAnswer → Handled
 dealtWith n a = record { nlme = n; change = KeepTable; then = Over a }
 
--- a leave command: "Leave without the request bit removes every entry of that address"; an accepted request is announced, which uses a sequence number
+-- a leave request: an accepted one is announced, which uses a sequence number (01, "Received frame")
 unfoldable pub leaveRequested : Neighbor → OptionalIeee → ShortAddress → ShortAddress → LeaveOptions → Nlme → Handled
-leaveRequested parent all s d o n =
+leaveRequested parent broadcastIeee s d o n =
     cond (acceptsLeave (n .nib) d (fromParent parent s))
-    (record { nlme = seqUsed n; change = KeepTable; then = Announce (announcement n parent all o) (o .rejoin) })
+    (record { nlme = seqUsed n; change = KeepTable; then = Announce (announcement n parent broadcastIeee o) (o .rejoin) })
     (dealtWith n PollNothing)
 
+-- a leave command: "Leave without the request bit removes every entry of that address" (Zigbee 3.6.1.10.3)
 unfoldable pub leaveHandled : Neighbor → OptionalIeee → Source → ShortAddress → LeaveOptions → Nlme → Handled
-leaveHandled parent all s d o n =
+leaveHandled parent broadcastIeee s d o n =
     cond (o .request)
-    (leaveRequested parent all (s .address) d o n)
+    (leaveRequested parent broadcastIeee (s .address) d o n)
     (record { nlme = neighborLeft parent s (o .rejoin) n; change = RemoveNeighbor (s .address); then = Over PollNothing })
 
 -- `process_received_nwk_frame`, after the teaching
 unfoldable pub handled : Neighbor → OptionalIeee → ReceivedFrame → Nlme → Handled
-handled parent all Undecodable n = dealtWith n PollUndecodable
-handled parent all (Data s) n = dealtWith n PollData
-handled parent all (RejoinResponseCommand s r) n = dealtWith (rejoinResponded r n) PollNothing
-handled parent all (TimeoutResponseCommand s r) n = dealtWith (timeoutResponded r n) PollNothing
-handled parent all (LeaveCommand s d o) n = leaveHandled parent all s d o n
-handled parent all (OtherCommand s) n = dealtWith n PollNothing
-handled parent all OtherFrame n = dealtWith n PollNothing
+handled parent broadcastIeee Undecodable n = dealtWith n PollUndecodable
+handled parent broadcastIeee (Data s) n = dealtWith n PollData
+handled parent broadcastIeee (RejoinResponseCommand s r) n = dealtWith (rejoinResponded r n) PollNothing
+handled parent broadcastIeee (TimeoutResponseCommand s r) n = dealtWith (timeoutResponded r n) PollNothing
+handled parent broadcastIeee (LeaveCommand s d o) n = leaveHandled parent broadcastIeee s d o n
+handled parent broadcastIeee (OtherCommand s) n = dealtWith n PollNothing
+handled parent broadcastIeee OtherFrame n = dealtWith n PollNothing
 
 -- after the announcement, sent or not: an end device's extended PAN id is 0 (Zigbee 3.6.1.10.1), and unless the rejoin bit is set the fields of
 -- `clear_nib_on_leave` are reset (Zigbee 3.6.1.10.4), so the timer runs on. "It indicates no device address, announced or not."

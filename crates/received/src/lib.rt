@@ -13,12 +13,10 @@ use management::PollAnswer;
 use management::RejoinResponse;
 use management::RejoinResponseSlot;
 use management::TimeoutResponseSlot;
-use nib::ExtendedPanId;
 use nib::Neighbor;
 use nib::NeighborTable;
 use nib::Nib;
 use nib::OptionalIeee;
-use nib::PanId;
 use nib::ShortAddress;
 use nlme::Nlme;
 use nlme::Transmission;
@@ -47,8 +45,10 @@ fn learn_source(table: NeighborTable, source: Source) -> NeighborTable
     let address = source.address;
     let ieee = source.ieee;
     match ieee {
-        OptionalIeee::NoIeee => table,
-        OptionalIeee::Ieee(x) => neighbor_table::learn_neighbor_ieee_address(table, address, x),
+        OptionalIeee::NoIeee => return table,
+        OptionalIeee::Ieee(x) => {
+            return neighbor_table::learn_neighbor_ieee_address(table, address, x);
+        }
     }
 }
 
@@ -57,54 +57,46 @@ pub fn learn_neighbor(table: NeighborTable, frame: ReceivedFrame) -> NeighborTab
     ensures { λ r. ⌜ r ≡ onEntries (taught frame) table ⌝ }
 {
     match frame {
-        ReceivedFrame::Undecodable => table,
-        ReceivedFrame::Data(s) => learn_source(table, s),
-        ReceivedFrame::RejoinResponseCommand(s, _) => learn_source(table, s),
-        ReceivedFrame::TimeoutResponseCommand(s, _) => learn_source(table, s),
-        ReceivedFrame::LeaveCommand(s, _, _) => learn_source(table, s),
-        ReceivedFrame::OtherCommand(s) => learn_source(table, s),
-        ReceivedFrame::OtherFrame => table,
+        ReceivedFrame::Undecodable => return table,
+        ReceivedFrame::Data(s) => return learn_source(table, s),
+        ReceivedFrame::RejoinResponseCommand(s, _) => return learn_source(table, s),
+        ReceivedFrame::TimeoutResponseCommand(s, _) => return learn_source(table, s),
+        ReceivedFrame::LeaveCommand(s, _, _) => return learn_source(table, s),
+        ReceivedFrame::OtherCommand(s) => return learn_source(table, s),
+        ReceivedFrame::OtherFrame => return table,
     }
 }
 
-fn handle_rejoin_response(nlme: Nlme, response: RejoinResponse) -> Nlme
+fn handle_rejoin_response(mut nlme: Nlme, response: RejoinResponse) -> Nlme
     ensures { λ r. ⌜ r ≡ rejoinResponded response nlme ⌝ }
 {
-    let signals = nlme.signals;
-    let next = signals.with_rejoin_response(RejoinResponseSlot::HasRejoinResponse(response));
-    let mut out = nlme;
-    out.signals = next;
-    if response.status != 0 {
-        return out;
+    let slot = RejoinResponseSlot::HasRejoinResponse(response);
+    let signals = nlme.signals.with_rejoin_response(slot);
+    nlme.signals = signals;
+    if response.status == 0 {
+        nlme.nib.network_address.0 = response.network_address.0;
     }
-    let address = response.network_address;
-    let mut nib = out.nib;
-    nib.network_address = address;
-    out.nib = nib;
-    out
+    nlme
 }
 
 // The negotiated timeout is stored and the timer restarted.
-fn store_negotiated(nlme: Nlme, parent_information: u8) -> Nlme
+fn store_negotiated(mut nlme: Nlme, parent_information: u8) -> Nlme
     ensures { λ r. ⌜ r ≡ stored «parent_information» nlme ⌝ }
 {
-    let mut nib = nlme.nib;
-    nib.parent_information = parent_information;
-    nib.end_device_timeout = nlme.pending_timeout_request;
-    let mut out = nlme;
-    out.nib = nib;
-    out.refresh_parent_timeout()
+    nlme.nib.parent_information = parent_information;
+    let index = nlme.pending_timeout_request;
+    nlme.nib.end_device_timeout = index;
+    nlme.refresh_parent_timeout()
 }
 
-fn signal_timeout_response(nlme: Nlme, response: EndDeviceTimeoutResponse) -> Nlme
+fn signal_timeout_response(mut nlme: Nlme, response: EndDeviceTimeoutResponse) -> Nlme
     ensures { λ r. ⌜ r ≡ timeoutSignalled response nlme ⌝ }
 {
-    let signals = nlme.signals;
-    let next = signals.with_timeout_response(TimeoutResponseSlot::HasTimeoutResponse(response));
-    let mut out = nlme;
-    out.signals = next;
-    out.pending_timeout_request = 0xff;
-    out
+    let slot = TimeoutResponseSlot::HasTimeoutResponse(response);
+    let signals = nlme.signals.with_timeout_response(slot);
+    nlme.signals = signals;
+    nlme.pending_timeout_request = 0xff;
+    nlme
 }
 
 fn handle_timeout_response(nlme: Nlme, response: EndDeviceTimeoutResponse) -> Nlme
@@ -124,36 +116,30 @@ fn is_from_parent(parent: Neighbor, source: ShortAddress) -> bool
     ensures { λ r. ⌜ r ≡ fromParent parent source ⌝ }
 {
     match parent {
-        Neighbor::Absent => false,
-        Neighbor::Entry(p) => p.network_address.0 == source.0,
+        Neighbor::Absent => return false,
+        Neighbor::Entry(p) => return p.network_address.0 == source.0,
     }
 }
 
-fn indicate_leave(nlme: Nlme, device_address: OptionalIeee, rejoin: bool) -> Nlme
+fn indicate_leave(mut nlme: Nlme, device_address: OptionalIeee, rejoin: bool) -> Nlme
     ensures { λ r. ⌜ r ≡ leaveIndicated «device_address» rejoin nlme ⌝ }
 {
-    let signals = nlme.signals;
     let indication = NlmeLeaveIndication {
         device_address,
         rejoin,
     };
-    let next = signals.with_leave_indication(LeaveIndicationSlot::HasLeaveIndication(indication));
-    let mut out = nlme;
-    out.signals = next;
-    out
+    let slot = LeaveIndicationSlot::HasLeaveIndication(indication);
+    let signals = nlme.signals.with_leave_indication(slot);
+    nlme.signals = signals;
+    nlme
 }
 
-fn neighbor_left(nlme: Nlme, parent: Neighbor, source: Source, rejoin: bool) -> Nlme
+fn neighbor_left(mut nlme: Nlme, parent: Neighbor, source: Source, rejoin: bool) -> Nlme
     ensures { λ r. ⌜ r ≡ neighborLeft parent source rejoin nlme ⌝ }
 {
-    let address = source.address;
-    if is_from_parent(parent, address) {
-        let none = ExtendedPanId(0);
-        let mut nib = nlme.nib;
-        nib.extended_panid = none;
-        let mut out = nlme;
-        out.nib = nib;
-        return indicate_leave(out, OptionalIeee::NoIeee, rejoin);
+    if is_from_parent(parent, source.address) {
+        nlme.nib.extended_panid.0 = 0;
+        return indicate_leave(nlme, OptionalIeee::NoIeee, rejoin);
     }
     let ieee = source.ieee;
     indicate_leave(nlme, ieee, rejoin)
@@ -163,15 +149,13 @@ fn neighbor_left(nlme: Nlme, parent: Neighbor, source: Source, rejoin: bool) -> 
 pub fn accepts_leave_request(nib: Nib, destination: ShortAddress, from_parent: bool) -> bool
     ensures { λ r. ⌜ r ≡ acceptsLeave nib destination «from_parent» ⌝ }
 {
-    let own = nib.network_address;
-    if own.0 == 0x0000 {
+    if nib.network_address.0 == nib::NWK_COORDINATOR_ADDRESS {
         return false;
     }
-    if 0xfff8 <= destination.0 {
+    if nib::NWK_BROADCAST_ADDRESS_MIN <= destination.0 {
         return false;
     }
-    let capabilities = nib.capability_information;
-    if capabilities.device_type() {
+    if nib.capability_information.device_type() {
         return nib.leave_request_allowed;
     }
     from_parent
@@ -187,8 +171,7 @@ fn leave_to(
     ensures { λ r. ⌜ r ≡ leaveTo nlme address ieee rejoin «remove_children» ⌝ }
 {
     let header = nlme.command_header(address, ieee, true);
-    let nib = nlme.nib;
-    let pan_id = nib.panid;
+    let pan_id = nlme.nib.panid;
     let frame = SentFrame::Leave(header, rejoin, remove_children);
     Transmission {
         pan_id,
@@ -205,10 +188,8 @@ fn announce_leave(
 ) -> Transmission
     ensures { λ r. ⌜ r ≡ announcement nlme parent «broadcast_ieee» options ⌝ }
 {
-    let nib = nlme.nib;
-    let capabilities = nib.capability_information;
-    if capabilities.device_type() {
-        let all = ShortAddress(0xffff);
+    if nlme.nib.capability_information.device_type() {
+        let all = ShortAddress(nib::NWK_BROADCAST_ALL);
         return leave_to(
             nlme,
             all,
@@ -217,9 +198,13 @@ fn announce_leave(
             options.remove_children,
         );
     }
-    let address = nlme::parent_address(parent);
-    let ieee = neighbor_table::known_ieee(parent);
-    leave_to(nlme, address, ieee, options.rejoin, false)
+    leave_to(
+        nlme,
+        nlme::parent_address(parent),
+        neighbor_table::known_ieee(parent),
+        options.rejoin,
+        false,
+    )
 }
 
 // A frame that is dealt with and leaves the table as it is.
@@ -234,7 +219,7 @@ fn over(nlme: Nlme, answer: PollAnswer) -> Handled
 }
 
 fn handle_leave_request(
-    nlme: Nlme,
+    mut nlme: Nlme,
     parent: Neighbor,
     broadcast_ieee: OptionalIeee,
     source: ShortAddress,
@@ -243,22 +228,21 @@ fn handle_leave_request(
 ) -> Handled
     ensures { λ r. ⌜ r ≡ leaveRequested parent «broadcast_ieee» source destination options nlme ⌝ }
 {
-    let nib = nlme.nib;
     let from_parent = is_from_parent(parent, source);
-    if !accepts_leave_request(nib, destination, from_parent) {
+    if !accepts_leave_request(nlme.nib, destination, from_parent) {
         return over(nlme, PollAnswer::PollNothing);
     }
     let transmission = announce_leave(nlme, parent, broadcast_ieee, options);
-    let next = nlme.use_nwk_seq();
+    nlme.nwk_seq = frame::next_nwk_seq(nlme.nwk_seq);
     Handled {
-        nlme: next,
+        nlme,
         change: TableChange::KeepTable,
         then: Then::Announce(transmission, options.rejoin),
     }
 }
 
 fn handle_leave_command(
-    nlme: Nlme,
+    mut nlme: Nlme,
     parent: Neighbor,
     broadcast_ieee: OptionalIeee,
     source: Source,
@@ -271,9 +255,9 @@ fn handle_leave_command(
     if options.request {
         return handle_leave_request(nlme, parent, broadcast_ieee, address, destination, options);
     }
-    let next = neighbor_left(nlme, parent, source, options.rejoin);
+    nlme = neighbor_left(nlme, parent, source, options.rejoin);
     Handled {
-        nlme: next,
+        nlme,
         change: TableChange::RemoveNeighbor(address),
         then: Then::Over(PollAnswer::PollNothing),
     }
@@ -289,59 +273,52 @@ pub fn process_received_nwk_frame(
     ensures { λ r. ⌜ r ≡ handled parent «broadcast_ieee» frame nlme ⌝ }
 {
     match frame {
-        ReceivedFrame::Undecodable => over(nlme, PollAnswer::PollUndecodable),
-        ReceivedFrame::Data(_) => over(nlme, PollAnswer::PollData),
+        ReceivedFrame::Undecodable => return over(nlme, PollAnswer::PollUndecodable),
+        ReceivedFrame::Data(_) => return over(nlme, PollAnswer::PollData),
         ReceivedFrame::RejoinResponseCommand(_, response) => {
-            over(
+            return over(
                 handle_rejoin_response(nlme, response),
                 PollAnswer::PollNothing,
-            )
+            );
         }
         ReceivedFrame::TimeoutResponseCommand(_, response) => {
-            over(
+            return over(
                 handle_timeout_response(nlme, response),
                 PollAnswer::PollNothing,
-            )
+            );
         }
         ReceivedFrame::LeaveCommand(source, destination, options) => {
-            handle_leave_command(nlme, parent, broadcast_ieee, source, destination, options)
+            return handle_leave_command(nlme, parent, broadcast_ieee, source, destination, options);
         }
-        ReceivedFrame::OtherCommand(_) => over(nlme, PollAnswer::PollNothing),
-        ReceivedFrame::OtherFrame => over(nlme, PollAnswer::PollNothing),
+        ReceivedFrame::OtherCommand(_) => return over(nlme, PollAnswer::PollNothing),
+        ReceivedFrame::OtherFrame => return over(nlme, PollAnswer::PollNothing),
     }
 }
 
 // The attributes after an announced leave.
-fn left_network(nib: Nib, rejoin: bool) -> Nib
+fn left_network(mut nib: Nib, rejoin: bool) -> Nib
     ensures { λ r. ⌜ r ≡ leftFor rejoin nib ⌝ }
 {
-    let none = ExtendedPanId(0);
-    let mut out = nib;
     if rejoin {
-        let capabilities = nib.capability_information;
-        if capabilities.device_type() {
+        if nib.capability_information.device_type() {
             return nib;
         }
-        out.extended_panid = none;
-        return out;
+        nib.extended_panid.0 = 0;
+        return nib;
     }
-    let unassigned = ShortAddress(0xffff);
-    let pan_id = PanId(0xffff);
-    out.network_address = unassigned;
-    out.extended_panid = none;
-    out.panid = pan_id;
-    out.update_id = 0;
-    out.parent_information = 0;
-    out
+    nib.network_address.0 = nib::NWK_UNASSIGNED_ADDRESS;
+    nib.extended_panid.0 = 0;
+    nib.panid.0 = 0xffff;
+    nib.update_id = 0;
+    nib.parent_information = 0;
+    nib
 }
 
 // After the announcement of this device's leave, sent or not. Without the rejoin bit the caller clears the table too.
-pub fn leave_announced(nlme: Nlme, rejoin: bool) -> Nlme
+pub fn leave_announced(mut nlme: Nlme, rejoin: bool) -> Nlme
     ensures { λ r. ⌜ r ≡ leaveAnnounced rejoin nlme ⌝ }
 {
-    let nib = nlme.nib;
-    let left = left_network(nib, rejoin);
-    let mut out = nlme;
-    out.nib = left;
-    indicate_leave(out, OptionalIeee::NoIeee, rejoin)
+    let left = left_network(nlme.nib, rejoin);
+    nlme.nib = left;
+    indicate_leave(nlme, OptionalIeee::NoIeee, rejoin)
 }

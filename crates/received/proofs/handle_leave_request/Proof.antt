@@ -1,9 +1,9 @@
 -- `handle_leave_request` meets its contract. Assumes nothing.
 use mathlib.Core.Path.{sym, ap, _∙_}
 use mathlib.Core.Bool.{Bool}
+use borrow.Author.Needs.{needs}
 use borrow.Author.Tests.{not-true, not-false}
 use Rattle.received.specs.Received.{acceptsLeave, leaveRequested}
-use borrow.Author.Needs.{needs}
 use Rattle.received.proofs.handle_leave_request.Statement.{statement}
 use Rattle.received.proofs.handle_leave_request.Tie as tie
 
@@ -19,7 +19,7 @@ over-requires c κs = search needs
 returns : tie.Need-returns
 unfolding leaveRequested
 returns c =
-    let a = c .before .before .before .before .before .args in
+    let a = c .before .before .before .before .args in
     let t = ap (λ (b : Bool). acceptsLeave (a .nlme .nib) (a .destination) b) (c .before .before .before .is-from-parent .ensures) in
     let e = sym t ∙ sym (c .before .before .accepts-leave-request .ensures) ∙ not-true _ (c .before .if1 .taken) in
     rw (c .over .ensures, e)
@@ -27,16 +27,16 @@ returns c =
 announce-leave-requires : tie.Need-announce-leave-requires
 announce-leave-requires c κs = search needs
 
-use-nwk-seq-requires : tie.Need-use-nwk-seq-requires
-use-nwk-seq-requires c κs = search needs
+next-nwk-seq-requires : tie.Need-next-nwk-seq-requires
+next-nwk-seq-requires c κs = search needs
 
 returns-2 : tie.Need-returns-2
 unfolding leaveRequested
 returns-2 c =
-    let a = c .before .before .before .before .before .before .args in
+    let a = c .before .before .before .before .before .args in
     let t = ap (λ (b : Bool). acceptsLeave (a .nlme .nib) (a .destination) b) (c .before .before .before .before .is-from-parent .ensures) in
     let e = sym t ∙ sym (c .before .before .before .accepts-leave-request .ensures) ∙ not-false _ (c .before .before .if1 .left) in
-    rw (c .use-nwk-seq .ensures, c .before .announce-leave .ensures, e)
+    rw (c .next-nwk-seq .ensures, c .before .announce-leave .ensures, e)
 
 pub handle-leave-request-spec : {M : Type 1} → statement M
 handle-leave-request-spec =
@@ -47,5 +47,5 @@ handle-leave-request-spec =
     over-requires
     returns
     announce-leave-requires
-    use-nwk-seq-requires
+    next-nwk-seq-requires
     returns-2)

@@ -1,7 +1,7 @@
 -- `handle_rejoin_response` meets its contract. Assumes nothing.
+use borrow.Author.Needs.{needs}
 use borrow.Author.Tests.{eq-eqb, ne-eqb}
 use Rattle.received.specs.Received.{rejoinResponded}
-use borrow.Author.Needs.{needs}
 use Rattle.received.proofs.handle_rejoin_response.Statement.{statement}
 use Rattle.received.proofs.handle_rejoin_response.Tie as tie
 
@@ -10,11 +10,11 @@ with-rejoin-response-requires c κs = search needs
 
 returns : tie.Need-returns
 unfolding rejoinResponded
-returns c = rw (c .before .before .with-rejoin-response .ensures, ne-eqb (c .before .before .before .before .args .response .status) 0 (c .if1 .taken))
+returns c = rw (c .before .before .before .with-rejoin-response .ensures, eq-eqb (c .before .before .before .before .args .response .status) 0 (c .before .if1 .taken))
 
 returns-2 : tie.Need-returns-2
 unfolding rejoinResponded
-returns-2 c = rw (c .before .before .before .before .with-rejoin-response .ensures, eq-eqb (c .before .before .before .before .before .before .args .response .status) 0 (c .before .before .if1 .left))
+returns-2 c = rw (c .before .before .with-rejoin-response .ensures, ne-eqb (c .before .before .before .args .response .status) 0 (c .if1 .left))
 
 pub handle-rejoin-response-spec : {M : Type 1} → statement M
 handle-rejoin-response-spec = tie.close (tie.spec with-rejoin-response-requires returns returns-2)

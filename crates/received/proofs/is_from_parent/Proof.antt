@@ -6,14 +6,14 @@ use Rattle.received.proofs.is_from_parent.Tie as tie
 enum-told : tie.Need-enum-told
 enum-told c = search needs
 
+returns : tie.Need-returns
+returns c = rw (c .enum-told .given .1)
+
 enum-known-parent : tie.Need-enum-known-parent
 enum-known-parent c = search needs
-
-returns : tie.Need-returns
-returns c = search needs
 
 returns-2 : tie.Need-returns-2
 returns-2 c = rw (c .before .before .before .parent .given .1)
 
 pub is-from-parent-spec : {M : Type 1} → statement M
-is-from-parent-spec = tie.close (tie.spec enum-told enum-known-parent returns returns-2)
+is-from-parent-spec = tie.close (tie.spec enum-told returns enum-known-parent returns-2)

@@ -7,7 +7,7 @@ command-header-requires : tie.Need-command-header-requires
 command-header-requires c κs = search needs
 
 returns : tie.Need-returns
-returns c = rw (c .before .before .command-header .ensures)
+returns c = rw (c .before .command-header .ensures)
 
 pub leave-to-spec : {M : Type 1} → statement M
 leave-to-spec = tie.close (tie.spec command-header-requires returns)

@@ -1,9 +1,9 @@
 -- `left_network` meets its contract. Assumes nothing.
 use mathlib.Core.Path.{sym, ap, _∙_}
 use mathlib.Core.Bool.{Bool}
+use borrow.Author.Needs.{needs}
 use Rattle.lists.proofs.Conditions.{pick-true, pick-false}
 use Rattle.received.specs.Received.{leftFor}
-use borrow.Author.Needs.{needs}
 use Rattle.received.proofs.left_network.Statement.{statement}
 use Rattle.received.proofs.left_network.Tie as tie
 
@@ -12,15 +12,15 @@ device-type-requires c κs = search needs
 
 returns : tie.Need-returns
 unfolding leftFor
-returns c = let a = c .before .before .before .before .args in pick-true _ _ _ (sym (c .before .device-type .ensures) ∙ c .if2 .taken) ∙ sym (ap (λ (b : Bool). leftFor b (a .nib)) (c .before .before .before .if1 .taken))
+returns c = let a = c .before .before .before .args in pick-true _ _ _ (sym (c .before .device-type .ensures) ∙ c .if2 .taken) ∙ sym (ap (λ (b : Bool). leftFor b (a .nib)) (c .before .before .if1 .taken))
 
 returns-2 : tie.Need-returns-2
 unfolding leftFor
-returns-2 c = let a = c .before .before .before .before .args in pick-false _ _ _ (sym (c .before .device-type .ensures) ∙ c .if2 .left) ∙ sym (ap (λ (b : Bool). leftFor b (a .nib)) (c .before .before .before .if1 .taken))
+returns-2 c = let a = c .before .before .before .before .args in pick-false _ _ _ (sym (c .before .before .device-type .ensures) ∙ c .before .if2 .left) ∙ sym (ap (λ (b : Bool). leftFor b (a .nib)) (c .before .before .before .if1 .taken))
 
 returns-3 : tie.Need-returns-3
 unfolding leftFor
-returns-3 c = let a = c .before .args in sym (ap (λ (b : Bool). leftFor b (a .nib)) (c .if1 .left))
+returns-3 c = let a = c .before .before .before .before .args in sym (ap (λ (b : Bool). leftFor b (a .nib)) (c .before .before .before .if1 .left))
 
 pub left-network-spec : {M : Type 1} → statement M
 left-network-spec = tie.close (tie.spec device-type-requires returns returns-2 returns-3)
