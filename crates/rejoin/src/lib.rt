@@ -72,14 +72,13 @@ fn operation_for(request: NlmeJoinRequest, nlme: Nlme) -> Operation
 }
 
 // The slot of the rejoin response is emptied.
-pub fn without_response(nlme: Nlme) -> Nlme
+pub fn without_response(mut nlme: Nlme) -> Nlme
     ensures { λ r. ⌜ r ≡ noResponse nlme ⌝ }
 {
     let left = nlme.signals
         .with_rejoin_response(RejoinResponseSlot::NoRejoinResponse);
-    let mut out = nlme;
-    out.signals = left;
-    out
+    nlme.signals = left;
+    nlme
 }
 
 fn rejoin_request(parent: NwkNeighbor, control: Control) -> RadioRequest
@@ -100,35 +99,36 @@ fn rejoin_request(parent: NwkNeighbor, control: Control) -> RadioRequest
 }
 
 // The control part of a try that begins.
-fn ready(control: Control) -> Control
+fn ready(mut control: Control) -> Control
     ensures { λ r. ⌜ r ≡ record { nlme = noResponse (seqUsed (control .nlme)); operation = withPolls 20 (awaiting RejoinSend (control .operation)) } ⌝ }
 {
-    let emptied = without_response(control.nlme.use_nwk_seq());
-    let mut next = operation::in_phase(control, Phase::RejoinSend);
-    next.operation.polls_left = REJOIN_RESPONSE_POLL_RETRIES;
-    next.nlme = emptied;
-    next
+    let mut nlme = control.nlme.use_nwk_seq();
+    nlme = without_response(nlme);
+    control = operation::in_phase(control, Phase::RejoinSend);
+    control.operation.polls_left = REJOIN_RESPONSE_POLL_RETRIES;
+    control.nlme = nlme;
+    control
 }
 
 // A try begins: the request is sent to an entry.
-fn trying(candidate: Move, note: Note, parent: NwkNeighbor, control: Control) -> Decision
+fn trying(candidate: Move, note: Note, parent: NwkNeighbor, mut control: Control) -> Decision
     ensures { λ r. ⌜ r ≡ trying candidate note parent control ⌝ }
 {
     let step = Step::Ask(rejoin_request(parent, control));
-    operation::decided(candidate, note, step, ready(control))
+    control = ready(control);
+    operation::decided(candidate, note, step, control)
 }
 
 // After the remembered parent: the scan, or the end where no channel is asked for.
-pub fn scan_or_end(status: NlmeJoinStatus, control: Control) -> Decision
+pub fn scan_or_end(status: NlmeJoinStatus, mut control: Control) -> Decision
     ensures { λ r. ⌜ r ≡ scanOrEnd status control ⌝ }
 {
     let scan = control.operation.scan;
     if scan.past <= scan.first {
         return join::failing(status, control);
     }
-    let mut next = control;
-    next.operation.scanned = true;
-    operation::asking(Phase::RejoinScan, RadioRequest::Scan(scan), next)
+    control.operation.scanned = true;
+    operation::asking(Phase::RejoinScan, RadioRequest::Scan(scan), control)
 }
 
 fn try_remembered(parent: Neighbor, control: Control) -> Decision
@@ -140,28 +140,29 @@ fn try_remembered(parent: Neighbor, control: Control) -> Decision
     }
 }
 
-fn begun(request: NlmeJoinRequest, control: Control) -> Control
+fn begun(request: NlmeJoinRequest, mut control: Control) -> Control
     ensures { λ r. ⌜ r ≡ begun request control ⌝ }
 {
     let operation = operation_for(request, control.nlme);
-    let reset = join::reset_negotiation(control);
-    let mut next = join::store_capabilities(request.capability_information, reset);
-    next.operation = operation;
-    next
+    control = join::reset_negotiation(control);
+    control = join::store_capabilities(request.capability_information, control);
+    control.operation = operation;
+    control
 }
 
 // The start of a rejoin.
-pub fn rejoin_started(control: Control, request: NlmeJoinRequest, parent: Neighbor) -> Decision
+pub fn rejoin_started(mut control: Control, request: NlmeJoinRequest, parent: Neighbor) -> Decision
     ensures { λ r. ⌜ r ≡ rejoinStarted request parent control ⌝ }
 {
     if is_invalid(request, control.nlme) {
         return join::failing(NlmeJoinStatus::InvalidRequest, control);
     }
-    try_remembered(parent, begun(request, control))
+    control = begun(request, control);
+    try_remembered(parent, control)
 }
 
 // The control part once a candidate is the parent.
-fn adopting(e: NwkNeighbor, control: Control) -> Control
+fn adopting(e: NwkNeighbor, mut control: Control) -> Control
     ensures { λ r. ⌜ r ≡ adopting e control ⌝ }
 {
     let mut nlme = control.nlme;
@@ -170,20 +171,21 @@ fn adopting(e: NwkNeighbor, control: Control) -> Control
     nib.panid = pan_id;
     nib.update_id = e.update_id;
     nlme.nib = nib;
-    let mut operation = control.operation;
-    operation.channel = e.logical_channel;
-    Control { nlme, operation }
+    control.nlme = nlme;
+    control.operation.channel = e.logical_channel;
+    control
 }
 
 // The next candidate is tried; where there is none, the rejoin ends with a status.
-pub fn try_next(status: NlmeJoinStatus, next: Neighbor, control: Control) -> Decision
+pub fn try_next(status: NlmeJoinStatus, next: Neighbor, mut control: Control) -> Decision
     ensures { λ r. ⌜ r ≡ tryNext status next control ⌝ }
 {
     match next {
         Neighbor::Absent => return join::failing(status, control),
         Neighbor::Entry(e) => {
             let note = Note::SetChannel(e.logical_channel);
-            return trying(Move::AdoptNext, note, e, adopting(e, control));
+            control = adopting(e, control);
+            return trying(Move::AdoptNext, note, e, control);
         }
     }
 }

@@ -28,23 +28,24 @@ fn try_failed(status: NlmeJoinStatus, next: Neighbor, control: Control) -> Decis
 }
 
 // The control part of a rejoin that has succeeded: the network is remembered, where it has an id.
-fn settled(control: Control) -> Control
+fn settled(mut control: Control) -> Control
     ensures { λ r. ⌜ r ≡ inPhase Idle (withNlme (remembering (control .operation .«extended_pan_id») (control .nlme)) control) ⌝ }
 {
-    let idle = operation::in_phase(control, Phase::Idle);
     let network = control.operation.extended_pan_id;
+    control = operation::in_phase(control, Phase::Idle);
     if network.0 == 0 {
-        return idle;
+        return control;
     }
-    let mut nib = control.nlme.nib;
-    nib.extended_panid = network;
     let mut nlme = control.nlme;
+    let mut nib = nlme.nib;
+    nib.extended_panid = network;
     nlme.nib = nib;
-    operation::with_nlme(idle, nlme)
+    control.nlme = nlme;
+    control
 }
 
 // The rejoin has succeeded.
-fn rejoined(response: RejoinResponse, control: Control) -> Decision
+fn rejoined(response: RejoinResponse, mut control: Control) -> Decision
     ensures { λ r. ⌜ r ≡ rejoined response control ⌝ }
 {
     let network_address = response.network_address;
@@ -55,12 +56,9 @@ fn rejoined(response: RejoinResponse, control: Control) -> Decision
         extended_pan_id,
         channel: control.operation.channel,
     };
-    operation::decided(
-        Move::Stay,
-        Note::SetAddress(network_address),
-        Step::Joined(confirm),
-        settled(control),
-    )
+    control = settled(control);
+    let note = Note::SetAddress(network_address);
+    operation::decided(Move::Stay, note, Step::Joined(confirm), control)
 }
 
 fn responded(response: RejoinResponse, next: Neighbor, control: Control) -> Decision
@@ -73,12 +71,13 @@ fn responded(response: RejoinResponse, next: Neighbor, control: Control) -> Deci
 }
 
 // All polls are used up.
-fn unanswered(next: Neighbor, control: Control) -> Decision
+fn unanswered(next: Neighbor, mut control: Control) -> Decision
     ensures { λ r. ⌜ r ≡ unanswered next control ⌝ }
 {
     let left = control.operation.polls_left;
-    let over = operation::with_polls(control, 0);
-    operation::after_polls(left, try_failed(NlmeJoinStatus::MacError, next, over))
+    control.operation.polls_left = 0;
+    let failed = try_failed(NlmeJoinStatus::MacError, next, control);
+    operation::after_polls(left, failed)
 }
 
 // No response has come: the parent is polled, or all polls are used up.
@@ -103,14 +102,15 @@ fn response_taken(control: Control) -> Control
 }
 
 // Within a try: its response ends it, or the parent is polled, or the polls are used up.
-pub fn poll_on(parent: Neighbor, next: Neighbor, control: Control) -> Decision
+pub fn poll_on(parent: Neighbor, next: Neighbor, mut control: Control) -> Decision
     ensures { λ r. ⌜ r ≡ pollOn parent next control ⌝ }
 {
     let signals = control.nlme.signals;
     let slot = signals.rejoin_response;
     match slot {
         RejoinResponseSlot::HasRejoinResponse(response) => {
-            return responded(response, next, response_taken(control));
+            control = response_taken(control);
+            return responded(response, next, control);
         }
         RejoinResponseSlot::NoRejoinResponse => return poll_again(parent, next, control),
     }

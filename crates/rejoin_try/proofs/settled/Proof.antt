@@ -1,6 +1,6 @@
 -- `settled` meets its contract. Assumes nothing.
 use borrow.Author.Tests.{eq-eqb, ne-eqb}
-use mathlib.Core.Path.{ap, sym, _∙_}
+use mathlib.Core.Path.{ap, _∙_}
 use lib.Dec.{eqb}
 use Rattle.lists.proofs.Conditions.{pick-true, pick-false}
 use Rattle.nlme.specs.Fields.{withNib, withExtendedPanId}
@@ -18,19 +18,15 @@ returns : tie.Need-returns
 returns c =
     let a = c .before .before .before .before .args .control in
     let e = a .operation .«extended_pan_id» in
-    c .before .before .before .in-phase .ensures
+    c .before .before .in-phase .ensures
     ∙ ap (λ (x : Nlme). inPhase Idle (withNlme x a)) (pick-true (eqb (e .0) 0) (a .nlme) (withNib (withExtendedPanId e (a .nlme .nib)) (a .nlme)) (eq-eqb (e .0) 0 (c .if1 .taken)))
-
-with-nlme-requires : tie.Need-with-nlme-requires
-with-nlme-requires c κs = search needs
 
 returns-2 : tie.Need-returns-2
 returns-2 c =
-    let a = c .before .before .before .before .before .before .before .args .control in
+    let a = c .before .before .before .before .before .before .args .control in
     let e = a .operation .«extended_pan_id» in
-    rw (c .with-nlme .ensures, c .before .before .before .before .before .before .in-phase .ensures)
-    (ap (λ (x : Nlme). inPhase Idle (withNlme x a)) (pick-false (eqb (e .0) 0) (a .nlme) (withNib (withExtendedPanId e (a .nlme .nib)) (a .nlme)) (ne-eqb (e .0) 0 (c .before .before .before .if1 .left))))
+    rw (c .before .before .before .before .in-phase .ensures)
+    (ap (λ (x : Nlme). inPhase Idle (withNlme x a)) (pick-false (eqb (e .0) 0) (a .nlme) (withNib (withExtendedPanId e (a .nlme .nib)) (a .nlme)) (ne-eqb (e .0) 0 (c .before .before .if1 .left))))
 
 pub settled-spec : {M : Type 1} → statement M
-settled-spec =
-    tie.close (tie.spec in-phase-requires returns with-nlme-requires returns-2)
+settled-spec = tie.close (tie.spec in-phase-requires returns returns-2)
