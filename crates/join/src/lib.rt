@@ -50,11 +50,12 @@ fn join_failure(status: NlmeJoinStatus) -> NlmeJoinConfirm
 }
 
 // A decision that does something with the candidates, and what is awaited then.
-fn moving(clear: bool, candidate: Move, step: Step, phase: Phase, control: Control) -> Decision
+fn moving(clear: bool, candidate: Move, step: Step, phase: Phase, mut control: Control) -> Decision
     ensures { λ r. ⌜ r ≡ clearing clear (decided candidate NoNote step (inPhase phase control)) ⌝ }
 {
+    control = operation::in_phase(control, phase);
     Decision {
-        control: operation::in_phase(control, phase),
+        control,
         clear_potential_parent: clear,
         candidate,
         note: Note::NoNote,
@@ -133,11 +134,12 @@ pub fn join_started(
 ) -> Decision
     ensures { λ r. ⌜ r ≡ joinStarted «capability_information» next control ⌝ }
 {
-    let reset = reset_negotiation(control);
+    let mut begun = reset_negotiation(control);
     match next {
-        Neighbor::Absent => return failing(NlmeJoinStatus::NotPermitted, reset),
+        Neighbor::Absent => return failing(NlmeJoinStatus::NotPermitted, begun),
         Neighbor::Entry(e) => {
-            return associate(false, e, store_capabilities(capability_information, reset));
+            begun = store_capabilities(capability_information, begun);
+            return associate(false, e, begun);
         }
     }
 }
@@ -162,11 +164,11 @@ pub fn join_status(status: u8) -> NlmeJoinStatus
 fn joined_control(response: AssociationResponse, entry: NwkNeighbor, control: Control) -> Control
     ensures { λ r. ⌜ r ≡ joinedControl response entry control ⌝ }
 {
+    let mut nib = control.nlme.nib;
     let network_address = response.association_address;
     let ieee_address = response.device_address;
     let extended_pan_id = entry.extended_pan_id;
     let pan_id = entry.pan_id;
-    let mut nib = control.nlme.nib;
     nib.network_address = network_address;
     nib.ieee_address = ieee_address;
     nib.extended_panid = extended_pan_id;
@@ -188,12 +190,12 @@ fn joined_confirm(response: AssociationResponse, entry: NwkNeighbor) -> NlmeJoin
     }
 }
 
-fn joined_by(response: AssociationResponse, entry: NwkNeighbor, control: Control) -> Decision
+fn joined_by(response: AssociationResponse, entry: NwkNeighbor, mut control: Control) -> Decision
     ensures { λ r. ⌜ r ≡ joinedBy response entry control ⌝ }
 {
     let step = Step::Joined(joined_confirm(response, entry));
-    let next = joined_control(response, entry, control);
-    moving(false, Move::JoinTried, step, Phase::Idle, next)
+    control = joined_control(response, entry, control);
+    moving(false, Move::JoinTried, step, Phase::Idle, control)
 }
 
 // A candidate has failed: the next one is tried, or its status stands.

@@ -1,6 +1,5 @@
 -- The rejoin (01, "Join request and confirm", the second paragraph; Zigbee 3.6.1.4.2, 3.4.6 and 3.4.7). `parent` is the present parent and `next` the next
 -- candidate, seen with the IEEE address known of their short address.
-use Prim.Native.Nat.{_-_}
 use mathlib.Core.Bool.{Bool, true, false, cond, not, _&&_, _||_}
 use lib.Dec.{eqb, leb}
 use Rattle.nib.specs.declared.NwkNeighbor.{NwkNeighbor}
@@ -19,13 +18,13 @@ use Rattle.frame.specs.declared.SentFrame.the-variants.{RejoinRequest}
 use Rattle.nlme.specs.Fields.{withNib, withSignals, withExtendedPanId, withAdopted}
 use Rattle.nlme.specs.Nlme.{commandHeader, seqUsed, transmission}
 use Rattle.nlme.specs.declared.Nlme.{Nlme}
-use Rattle.operation.specs.Operation.{withNlme, withOperation, awaiting, withPolls, withChannel, scanAsked, inPhase, asking, afterPolls}
-use Rattle.operation.specs.declared.Phase.the-variants.{Idle, RejoinScan, RejoinSend, Reception}
+use Rattle.operation.specs.Operation.{withNlme, withOperation, awaiting, withPolls, withChannel, scanAsked, inPhase, decided, asking, afterPolls, pollCounted}
+use Rattle.operation.specs.declared.Phase.the-variants.{Idle, RejoinScan, RejoinSend}
 use Rattle.operation.specs.declared.Purpose.the-variants.{RejoinResponse as ForRejoinResponse}
 use Rattle.operation.specs.declared.Operation.{Operation}
 use Rattle.operation.specs.declared.Control.{Control}
 use Rattle.operation.specs.declared.RadioRequest.{RadioRequest}
-use Rattle.operation.specs.declared.RadioRequest.the-variants.{Scan, Transmit, Poll}
+use Rattle.operation.specs.declared.RadioRequest.the-variants.{Scan, Transmit}
 use Rattle.operation.specs.declared.Note.{Note}
 use Rattle.operation.specs.declared.Note.the-variants.{NoNote, SetChannel, SetAddress}
 use Rattle.operation.specs.declared.Step.the-variants.{Ask, Joined}
@@ -71,14 +70,8 @@ rejoinRequest p c =
 
 unfoldable pub trying : Move → Note → NwkNeighbor → Control → Decision
 trying m note p c =
-    record {
-      control = record { nlme = noResponse (seqUsed (c .nlme)); operation = withPolls 20 (awaiting RejoinSend (c .operation)) };
-      «clear_potential_parent» = false;
-      candidate = m;
-      note = note;
-      step = Ask (rejoinRequest p c);
-      «polls_used» = 0;
-    }
+    decided m note (Ask (rejoinRequest p c))
+    (record { nlme = noResponse (seqUsed (c .nlme)); operation = withPolls 20 (awaiting RejoinSend (c .operation)) })
 
 -- after the remembered parent: "An empty channel range ends it there with that try's status, or InvalidRequest if there was no parent. Else comes a scan"
 unfoldable pub scanOrEnd : NlmeJoinStatus → Control → Decision
@@ -123,39 +116,22 @@ remembering e n = cond (eqb (e .0) 0) n (withNib (withExtendedPanId e (n .nib)) 
 
 unfoldable pub rejoined : RejoinResponse → Control → Decision
 rejoined r c =
-    record {
-      control = inPhase Idle (withNlme (remembering (c .operation .«extended_pan_id») (c .nlme)) c);
-      «clear_potential_parent» = false;
-      candidate = Stay;
-      note = SetAddress (r .«network_address»);
-      step =
-          Joined
-          (record {
-            status = Success;
-            «network_address» = r .«network_address»;
-            «extended_pan_id» = c .operation .«extended_pan_id»;
-            channel = c .operation .channel;
-          });
-      «polls_used» = 0;
-    }
+    decided Stay (SetAddress (r .«network_address»))
+    (Joined
+    (record {
+      status = Success;
+      «network_address» = r .«network_address»;
+      «extended_pan_id» = c .operation .«extended_pan_id»;
+      channel = c .operation .channel;
+    }))
+    (inPhase Idle (withNlme (remembering (c .operation .«extended_pan_id») (c .nlme)) c))
 
 unfoldable pub responded : RejoinResponse → Neighbor → Control → Decision
 responded r next c = cond (eqb (r .status) 0) (rejoined r c) (tryFailed (statusOf (r .status)) next c)
 
--- one poll of the parent
-abbrev pub pollOf : NwkNeighbor → Control → RadioRequest
-pollOf p c = Poll (c .nlme .nib .panid) (p .«network_address»)
-
+-- one poll of the parent (Zigbee 3.4.7.1)
 unfoldable pub polling : NwkNeighbor → Control → Decision
-polling p c =
-    record {
-      control = withOperation (withPolls (c .operation .«polls_left» - 1) (awaiting (Reception ForRejoinResponse) (c .operation))) c;
-      «clear_potential_parent» = false;
-      candidate = Stay;
-      note = NoNote;
-      step = Ask (pollOf p c);
-      «polls_used» = 1;
-    }
+polling p c = pollCounted ForRejoinResponse p c
 
 -- no poll is left, or "A poll made while no entry is PARENT counts towards the 20 but sends no radio request": then all that are left are used up
 unfoldable pub unanswered : Neighbor → Control → Decision

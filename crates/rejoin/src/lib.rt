@@ -1,10 +1,9 @@
 // The start of a rejoin, and the next try.
 ghost use mathlib.Core.Path.{_≡_};
-ghost use mathlib.Core.Bool.{false};
 ghost use Rattle.nlme.specs.Nlme.{seqUsed};
-ghost use Rattle.operation.specs.Operation.{withOperation, withPolls, awaiting, scanAsked};
+ghost use Rattle.operation.specs.Operation.{withPolls, awaiting};
 ghost use Rattle.operation.specs.declared.Phase.the-variants.{RejoinSend};
-ghost use Rattle.rejoin.specs.Rejoin.{invalid, resolved, operationFor, noResponse, rejoinRequest, trying, scanOrEnd, tryRemembered, begun, rejoinStarted, adopting, tryCandidate, tryNext};
+ghost use Rattle.rejoin.specs.Rejoin.{invalid, resolved, operationFor, noResponse, rejoinRequest, trying, scanOrEnd, tryRemembered, begun, rejoinStarted, adopting, tryNext};
 use frame::SentFrame;
 use management::NlmeJoinRequest;
 use management::NlmeJoinStatus;
@@ -24,7 +23,7 @@ use operation::RadioRequest;
 use operation::Step;
 
 // The polls of one try.
-pub const REJOIN_RESPONSE_POLL_RETRIES: u8 = 20;
+const REJOIN_RESPONSE_POLL_RETRIES: u8 = 20;
 
 // Whether the request is turned down: with no address of this device's own, or for another network than the remembered one.
 fn is_invalid(request: NlmeJoinRequest, nlme: Nlme) -> bool
@@ -73,25 +72,24 @@ fn operation_for(request: NlmeJoinRequest, nlme: Nlme) -> Operation
 }
 
 // The slot of the rejoin response is emptied.
-pub fn without_response(nlme: Nlme) -> Nlme
+pub fn without_response(mut nlme: Nlme) -> Nlme
     ensures { λ r. ⌜ r ≡ noResponse nlme ⌝ }
 {
     let left = nlme.signals
         .with_rejoin_response(RejoinResponseSlot::NoRejoinResponse);
-    let mut out = nlme;
-    out.signals = left;
-    out
+    nlme.signals = left;
+    nlme
 }
 
 fn rejoin_request(parent: NwkNeighbor, control: Control) -> RadioRequest
     ensures { λ r. ⌜ r ≡ rejoinRequest parent control ⌝ }
 {
-    let nlme = control.nlme;
-    let pan_id = nlme.nib.panid;
-    let capabilities = nlme.nib.capability_information;
+    let pan_id = control.nlme.nib.panid;
+    let capabilities = control.nlme.nib.capability_information;
     let address = parent.network_address;
     let ieee = neighbor_table::known_ieee(Neighbor::Entry(parent));
-    let header = nlme.command_header(address, ieee, control.operation.security_enabled);
+    let secure = control.operation.security_enabled;
+    let header = control.nlme.command_header(address, ieee, secure);
     let frame = SentFrame::RejoinRequest(header, capabilities);
     RadioRequest::Transmit(Transmission {
         pan_id,
@@ -100,103 +98,71 @@ fn rejoin_request(parent: NwkNeighbor, control: Control) -> RadioRequest
     })
 }
 
-// Some polls are left.
-fn with_polls(polls_left: u8, control: Control) -> Control
-    ensures { λ r. ⌜ r ≡ withOperation (withPolls «polls_left» (control .operation)) control ⌝ }
-{
-    let mut next = control;
-    next.operation.polls_left = polls_left;
-    next
-}
-
 // The control part of a try that begins.
-fn ready(control: Control) -> Control
+fn ready(mut control: Control) -> Control
     ensures { λ r. ⌜ r ≡ record { nlme = noResponse (seqUsed (control .nlme)); operation = withPolls 20 (awaiting RejoinSend (control .operation)) } ⌝ }
 {
-    let used = control.nlme.use_nwk_seq();
-    let emptied = without_response(used);
-    let sending = operation::in_phase(control, Phase::RejoinSend);
-    let mut next = with_polls(REJOIN_RESPONSE_POLL_RETRIES, sending);
-    next.nlme = emptied;
-    next
-}
-
-// A decision that uses up no poll.
-fn decided(control: Control, candidate: Move, note: Note, step: Step) -> Decision
-    ensures { λ r. ⌜ r ≡ record { control = control; «clear_potential_parent» = false; candidate = candidate; note = note; step = step; «polls_used» = 0 } ⌝ }
-{
-    Decision {
-        control,
-        clear_potential_parent: false,
-        candidate,
-        note,
-        step,
-        polls_used: 0,
-    }
+    let mut nlme = control.nlme.use_nwk_seq();
+    nlme = without_response(nlme);
+    control = operation::in_phase(control, Phase::RejoinSend);
+    control.operation.polls_left = REJOIN_RESPONSE_POLL_RETRIES;
+    control.nlme = nlme;
+    control
 }
 
 // A try begins: the request is sent to an entry.
-fn trying(candidate: Move, note: Note, parent: NwkNeighbor, control: Control) -> Decision
+fn trying(candidate: Move, note: Note, parent: NwkNeighbor, mut control: Control) -> Decision
     ensures { λ r. ⌜ r ≡ trying candidate note parent control ⌝ }
 {
-    let request = rejoin_request(parent, control);
-    decided(ready(control), candidate, note, Step::Ask(request))
-}
-
-fn scan_asked(control: Control) -> Control
-    ensures { λ r. ⌜ r ≡ withOperation (scanAsked (control .operation)) control ⌝ }
-{
-    let mut next = control;
-    next.operation.scanned = true;
-    next
+    let step = Step::Ask(rejoin_request(parent, control));
+    control = ready(control);
+    operation::decided(candidate, note, step, control)
 }
 
 // After the remembered parent: the scan, or the end where no channel is asked for.
-pub fn scan_or_end(status: NlmeJoinStatus, control: Control) -> Decision
+pub fn scan_or_end(status: NlmeJoinStatus, mut control: Control) -> Decision
     ensures { λ r. ⌜ r ≡ scanOrEnd status control ⌝ }
 {
     let scan = control.operation.scan;
     if scan.past <= scan.first {
         return join::failing(status, control);
     }
-    operation::asking(
-        Phase::RejoinScan,
-        RadioRequest::Scan(scan),
-        scan_asked(control),
-    )
+    control.operation.scanned = true;
+    operation::asking(Phase::RejoinScan, RadioRequest::Scan(scan), control)
 }
 
 fn try_remembered(parent: Neighbor, control: Control) -> Decision
     ensures { λ r. ⌜ r ≡ tryRemembered parent control ⌝ }
 {
     match parent {
-        Neighbor::Absent => scan_or_end(NlmeJoinStatus::InvalidRequest, control),
-        Neighbor::Entry(e) => trying(Move::Stay, Note::NoNote, e, control),
+        Neighbor::Absent => return scan_or_end(NlmeJoinStatus::InvalidRequest, control),
+        Neighbor::Entry(e) => return trying(Move::Stay, Note::NoNote, e, control),
     }
 }
 
-fn begun(request: NlmeJoinRequest, control: Control) -> Control
+fn begun(request: NlmeJoinRequest, mut control: Control) -> Control
     ensures { λ r. ⌜ r ≡ begun request control ⌝ }
 {
     let operation = operation_for(request, control.nlme);
-    let reset = join::reset_negotiation(control);
-    let mut next = join::store_capabilities(request.capability_information, reset);
-    next.operation = operation;
-    next
+    control = join::reset_negotiation(control);
+    control = join::store_capabilities(request.capability_information, control);
+    control.operation = operation;
+    control
 }
 
 // The start of a rejoin.
-pub fn rejoin_started(control: Control, request: NlmeJoinRequest, parent: Neighbor) -> Decision
+pub fn rejoin_started(mut control: Control, request: NlmeJoinRequest, parent: Neighbor) -> Decision
     ensures { λ r. ⌜ r ≡ rejoinStarted request parent control ⌝ }
 {
     if is_invalid(request, control.nlme) {
         return join::failing(NlmeJoinStatus::InvalidRequest, control);
     }
-    try_remembered(parent, begun(request, control))
+    control = begun(request, control);
+    try_remembered(parent, control)
 }
 
 // The control part once a candidate is the parent.
-fn adopting(e: NwkNeighbor, control: Control) -> Control
+fn adopting(e: NwkNeighbor, mut control: Control) -> Control
     ensures { λ r. ⌜ r ≡ adopting e control ⌝ }
 {
     let mut nlme = control.nlme;
@@ -205,24 +171,21 @@ fn adopting(e: NwkNeighbor, control: Control) -> Control
     nib.panid = pan_id;
     nib.update_id = e.update_id;
     nlme.nib = nib;
-    let mut operation = control.operation;
-    operation.channel = e.logical_channel;
-    Control { nlme, operation }
-}
-
-fn try_candidate(e: NwkNeighbor, control: Control) -> Decision
-    ensures { λ r. ⌜ r ≡ tryCandidate e control ⌝ }
-{
-    let note = Note::SetChannel(e.logical_channel);
-    trying(Move::AdoptNext, note, e, adopting(e, control))
+    control.nlme = nlme;
+    control.operation.channel = e.logical_channel;
+    control
 }
 
 // The next candidate is tried; where there is none, the rejoin ends with a status.
-pub fn try_next(status: NlmeJoinStatus, next: Neighbor, control: Control) -> Decision
+pub fn try_next(status: NlmeJoinStatus, next: Neighbor, mut control: Control) -> Decision
     ensures { λ r. ⌜ r ≡ tryNext status next control ⌝ }
 {
     match next {
-        Neighbor::Absent => join::failing(status, control),
-        Neighbor::Entry(e) => try_candidate(e, control),
+        Neighbor::Absent => return join::failing(status, control),
+        Neighbor::Entry(e) => {
+            let note = Note::SetChannel(e.logical_channel);
+            control = adopting(e, control);
+            return trying(Move::AdoptNext, note, e, control);
+        }
     }
 }

@@ -12,11 +12,8 @@ without-response-requires c κs = search needs
 in-phase-requires : tie.Need-in-phase-requires
 in-phase-requires c κs = search needs
 
-with-polls-requires : tie.Need-with-polls-requires
-with-polls-requires c κs = search needs
-
 returns : tie.Need-returns
-returns c = rw (c .with-polls .ensures, c .before .in-phase .ensures, c .before .before .without-response .ensures, c .before .before .before .use-nwk-seq .ensures)
+returns c = rw (c .before .in-phase .ensures, c .before .before .without-response .ensures, c .before .before .before .use-nwk-seq .ensures)
 
 pub ready-spec : {M : Type 1} → statement M
 ready-spec =
@@ -25,5 +22,4 @@ ready-spec =
     use-nwk-seq-requires
     without-response-requires
     in-phase-requires
-    with-polls-requires
     returns)

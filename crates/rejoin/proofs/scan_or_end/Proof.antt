@@ -1,11 +1,8 @@
 -- `scan_or_end` meets its contract. Assumes nothing.
 use borrow.Author.Tests.{le-leb, lt-leb}
-use mathlib.Core.Path.{ap, _∙_}
+use mathlib.Core.Path.{_∙_}
 use lib.Dec.{leb}
 use Rattle.lists.proofs.Conditions.{pick-true, pick-false}
-use Rattle.operation.specs.Operation.{asking}
-use Rattle.operation.specs.declared.Phase.the-variants.{RejoinScan}
-use Rattle.operation.specs.declared.RadioRequest.the-variants.{Scan}
 use Rattle.rejoin.specs.Rejoin.{scanOrEnd}
 use borrow.Author.Needs.{needs}
 use Rattle.rejoin.proofs.scan_or_end.Statement.{statement}
@@ -20,9 +17,6 @@ returns c =
     let s = c .before .before .before .before .args .control .operation .scan in
     c .failing .ensures ∙ pick-true (leb (s .past) (s .first)) _ _ (le-leb (s .past) (s .first) (c .before .if1 .taken))
 
-scan-asked-requires : tie.Need-scan-asked-requires
-scan-asked-requires c κs = search needs
-
 asking-requires : tie.Need-asking-requires
 asking-requires c κs = search needs
 
@@ -30,9 +24,8 @@ returns-2 : tie.Need-returns-2
 unfolding scanOrEnd
 returns-2 c =
     let s = c .before .before .before .before .before .args .control .operation .scan in
-    c .asking .ensures ∙ ap (asking RejoinScan (Scan s)) (c .before .scan-asked .ensures)
-    ∙ pick-false (leb (s .past) (s .first)) _ _ (lt-leb (s .past) (s .first) (c .before .before .if1 .left))
+    c .asking .ensures ∙ pick-false (leb (s .past) (s .first)) _ _ (lt-leb (s .past) (s .first) (c .before .before .if1 .left))
 
 pub scan-or-end-spec : {M : Type 1} → statement M
 scan-or-end-spec =
-    tie.close (tie.spec failing-requires returns scan-asked-requires asking-requires returns-2)
+    tie.close (tie.spec failing-requires returns asking-requires returns-2)

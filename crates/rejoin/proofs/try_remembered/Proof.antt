@@ -12,15 +12,15 @@ enum-told c = search needs
 scan-or-end-requires : tie.Need-scan-or-end-requires
 scan-or-end-requires c κs = search needs
 
+returns : tie.Need-returns
+unfolding tryRemembered
+returns c = c .scan-or-end .ensures ∙ sym (ap (λ (x : Neighbor). tryRemembered x (c .before .before .before .args .control)) (c .before .enum-told .given .1))
+
 enum-known-parent : tie.Need-enum-known-parent
 enum-known-parent c = search needs
 
 trying-requires : tie.Need-trying-requires
 trying-requires c κs = search needs
-
-returns : tie.Need-returns
-unfolding tryRemembered
-returns c = c .scan-or-end .ensures ∙ sym (ap (λ (x : Neighbor). tryRemembered x (c .before .before .before .args .control)) (c .before .enum-told .given .1))
 
 returns-2 : tie.Need-returns-2
 unfolding tryRemembered
@@ -29,4 +29,4 @@ returns-2 c = c .trying .ensures ∙ sym (ap (λ (x : Neighbor). tryRemembered x
 pub try-remembered-spec : {M : Type 1} → statement M
 try-remembered-spec =
     tie.close
-    (tie.spec enum-told scan-or-end-requires enum-known-parent trying-requires returns returns-2)
+    (tie.spec enum-told scan-or-end-requires returns enum-known-parent trying-requires returns-2)

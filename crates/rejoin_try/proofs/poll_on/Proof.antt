@@ -1,15 +1,48 @@
 -- `poll_on` meets its contract. Assumes nothing.
-use Rattle.rejoin.specs.Rejoin.{pollOn}
+use mathlib.Core.Path.{ap, sym, _∙_}
+use Rattle.management.specs.declared.RejoinResponseSlot.{RejoinResponseSlot}
+use Rattle.rejoin.specs.Rejoin.{responded, answeredBy, pollOn}
 use borrow.Author.Needs.{needs}
 use Rattle.rejoin_try.proofs.poll_on.Statement.{statement}
 use Rattle.rejoin_try.proofs.poll_on.Tie as tie
 
-answered-by-requires : tie.Need-answered-by-requires
-answered-by-requires c κs = search needs
+enum-known-slot : tie.Need-enum-known-slot
+enum-known-slot c = search needs
+
+response-taken-requires : tie.Need-response-taken-requires
+response-taken-requires c κs = search needs
+
+responded-requires : tie.Need-responded-requires
+responded-requires c κs = search needs
 
 returns : tie.Need-returns
-unfolding pollOn
-returns c = c .answered-by .ensures
+unfolding answeredBy pollOn
+returns c =
+    let a = c .before .before .before .before .before .before .args in
+    let s = c .before .before .before .slot .given in
+    c .responded .ensures ∙ ap (responded (s .0 .0) (a .next)) (c .before .response-taken .ensures)
+    ∙ sym (ap (λ (x : RejoinResponseSlot). answeredBy x (a .parent) (a .next) (a .control)) (s .1))
+
+enum-told : tie.Need-enum-told
+enum-told c = search needs
+
+poll-again-requires : tie.Need-poll-again-requires
+poll-again-requires c κs = search needs
+
+returns-2 : tie.Need-returns-2
+unfolding answeredBy pollOn
+returns-2 c =
+    let a = c .before .before .before .before .args in
+    c .poll-again .ensures ∙ sym (ap (λ (x : RejoinResponseSlot). answeredBy x (a .parent) (a .next) (a .control)) (c .before .enum-told .given .1))
 
 pub poll-on-spec : {M : Type 1} → statement M
-poll-on-spec = tie.close (tie.spec answered-by-requires returns)
+poll-on-spec =
+    tie.close
+    (tie.spec
+    enum-known-slot
+    response-taken-requires
+    responded-requires
+    returns
+    enum-told
+    poll-again-requires
+    returns-2)

@@ -6,8 +6,11 @@ use Rattle.rejoin_try.proofs.response_taken.Tie as tie
 without-response-requires : tie.Need-without-response-requires
 without-response-requires c κs = search needs
 
+with-nlme-requires : tie.Need-with-nlme-requires
+with-nlme-requires c κs = search needs
+
 returns : tie.Need-returns
-returns c = rw (c .without-response .ensures)
+returns c = rw (c .with-nlme .ensures, c .before .without-response .ensures)
 
 pub response-taken-spec : {M : Type 1} → statement M
-response-taken-spec = tie.close (tie.spec without-response-requires returns)
+response-taken-spec = tie.close (tie.spec without-response-requires with-nlme-requires returns)

@@ -4,9 +4,6 @@ use borrow.Author.Needs.{needs}
 use Rattle.rejoin_try.proofs.unanswered.Statement.{statement}
 use Rattle.rejoin_try.proofs.unanswered.Tie as tie
 
-with-polls-requires : tie.Need-with-polls-requires
-with-polls-requires c κs = search needs
-
 try-failed-requires : tie.Need-try-failed-requires
 try-failed-requires c κs = search needs
 
@@ -15,8 +12,7 @@ after-polls-requires c κs = search needs
 
 returns : tie.Need-returns
 unfolding unanswered
-returns c = rw (c .after-polls .ensures, c .before .try-failed .ensures, c .before .before .with-polls .ensures)
+returns c = rw (c .after-polls .ensures, c .before .try-failed .ensures)
 
 pub unanswered-spec : {M : Type 1} → statement M
-unanswered-spec =
-    tie.close (tie.spec with-polls-requires try-failed-requires after-polls-requires returns)
+unanswered-spec = tie.close (tie.spec try-failed-requires after-polls-requires returns)
