@@ -15,22 +15,17 @@ keepalive-over-requires c κs = search needs
 returns : tie.Need-returns
 unfolding accepted
 returns c =
-    let a = c .before .before .before .before .args in
-    rw (c .keepalive-over .ensures, c .before .refresh-parent-timeout .ensures) (sym (ap (λ (x : Bool). accepted x (a .control)) (c .before .before .before .if1 .taken)))
+    let a = c .before .before .before .args in
+    rw (c .keepalive-over .ensures, c .before .refresh-parent-timeout .ensures) (sym (ap (λ (x : Bool). accepted x (a .control)) (c .before .before .if1 .taken)))
 
-negotiation-over-requires : tie.Need-negotiation-over-requires
-negotiation-over-requires c κs = search needs
+ending-requires : tie.Need-ending-requires
+ending-requires c κs = search needs
 
 returns-2 : tie.Need-returns-2
 unfolding accepted
-returns-2 c = let a = c .before .before .args in c .negotiation-over .ensures ∙ sym (ap (λ (x : Bool). accepted x (a .control)) (c .before .if1 .left))
+returns-2 c =
+    let a = c .before .before .args in
+    c .ending .ensures ∙ sym (ap (λ (x : Bool). accepted x (a .control)) (c .before .if1 .left))
 
 pub accepted-spec : {M : Type 1} → statement M
-accepted-spec =
-    tie.close
-    (tie.spec
-    refresh-parent-timeout-requires
-    keepalive-over-requires
-    returns
-    negotiation-over-requires
-    returns-2)
+accepted-spec = tie.close (tie.spec refresh-parent-timeout-requires keepalive-over-requires returns ending-requires returns-2)

@@ -10,7 +10,8 @@ ending-requires : tie.Need-ending-requires
 ending-requires c κs = search needs
 
 returns : tie.Need-returns
-returns c = rw (c .ending .ensures, c .before .with-nlme .ensures)
+returns c =
+    rw (c .ending .ensures, c .before .with-nlme .ensures)
 
 pub keepalive-over-spec : {M : Type 1} → statement M
 keepalive-over-spec = tie.close (tie.spec with-nlme-requires ending-requires returns)

@@ -10,8 +10,8 @@ with-nlme-requires : tie.Need-with-nlme-requires
 with-nlme-requires c κs = search needs
 
 returns : tie.Need-returns
-returns c = rw (c .with-nlme .ensures, c .before .with-timeout-response .ensures)
+returns c =
+    rw (c .with-nlme .ensures, c .before .with-timeout-response .ensures)
 
 pub no-timeout-response-spec : {M : Type 1} → statement M
-no-timeout-response-spec =
-    tie.close (tie.spec with-timeout-response-requires with-nlme-requires returns)
+no-timeout-response-spec = tie.close (tie.spec with-timeout-response-requires with-nlme-requires returns)

@@ -6,11 +6,18 @@ use Rattle.negotiation.proofs.request_timeout.Tie as tie
 timeout-request-requires : tie.Need-timeout-request-requires
 timeout-request-requires c κs = search needs
 
-requesting-requires : tie.Need-requesting-requires
-requesting-requires c κs = search needs
+with-nlme-requires : tie.Need-with-nlme-requires
+with-nlme-requires c κs = search needs
+
+with-polls-requires : tie.Need-with-polls-requires
+with-polls-requires c κs = search needs
+
+transmit-requires : tie.Need-transmit-requires
+transmit-requires c κs = search needs
 
 returns : tie.Need-returns
-returns c = rw (c .requesting .ensures, c .before .timeout-request .ensures)
+returns c =
+    rw (c .transmit .ensures, c .before .with-polls .ensures, c .before .before .with-nlme .ensures, c .before .before .before .timeout-request .ensures)
 
 pub request-timeout-spec : {M : Type 1} → statement M
-request-timeout-spec = tie.close (tie.spec timeout-request-requires requesting-requires returns)
+request-timeout-spec = tie.close (tie.spec timeout-request-requires with-nlme-requires with-polls-requires transmit-requires returns)

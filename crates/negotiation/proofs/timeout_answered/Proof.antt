@@ -1,6 +1,7 @@
 -- `timeout_answered` meets its contract. Assumes nothing.
-use Rattle.exchange.specs.Exchange.{accepted, rejected}
+use Rattle.exchange.specs.Exchange.{accepted, timeoutFailed}
 use mathlib.Core.Path.{ap, _∙_}
+use Rattle.management.specs.declared.NegotiationAnswer.the-variants.{NotNegotiated}
 use lib.Dec.{eqb}
 use borrow.Author.Tests.{eq-eqb, ne-eqb}
 use Rattle.lists.proofs.Conditions.{pick-true, pick-false}
@@ -15,15 +16,17 @@ accepted-requires : tie.Need-accepted-requires
 accepted-requires c κs = search needs
 
 returns : tie.Need-returns
-returns c = let a = c .before .before .before .args in c .accepted .ensures ∙ ap (accepted (a .keepalive)) (c .before .before .no-timeout-response .ensures) ∙ pick-true (eqb (a .status) 0) _ _ (eq-eqb (a .status) 0 (c .before .if1 .taken))
+returns c =
+    let a = c .before .before .before .args in
+    c .accepted .ensures ∙ ap (accepted (a .keepalive)) (c .before .before .no-timeout-response .ensures) ∙ pick-true (eqb (a .status) 0) _ _ (eq-eqb (a .status) 0 (c .before .if1 .taken))
 
-rejected-requires : tie.Need-rejected-requires
-rejected-requires c κs = search needs
+timeout-failed-requires : tie.Need-timeout-failed-requires
+timeout-failed-requires c κs = search needs
 
 returns-2 : tie.Need-returns-2
-returns-2 c = let a = c .before .before .before .args in c .rejected .ensures ∙ ap (rejected (a .keepalive) (a .parent)) (c .before .before .no-timeout-response .ensures) ∙ pick-false (eqb (a .status) 0) _ _ (ne-eqb (a .status) 0 (c .before .if1 .left))
+returns-2 c =
+    let a = c .before .before .before .args in
+    c .timeout-failed .ensures ∙ ap (timeoutFailed NotNegotiated (a .keepalive) (a .parent)) (c .before .before .no-timeout-response .ensures) ∙ pick-false (eqb (a .status) 0) _ _ (ne-eqb (a .status) 0 (c .before .if1 .left))
 
 pub timeout-answered-spec : {M : Type 1} → statement M
-timeout-answered-spec =
-    tie.close
-    (tie.spec no-timeout-response-requires accepted-requires returns rejected-requires returns-2)
+timeout-answered-spec = tie.close (tie.spec no-timeout-response-requires accepted-requires returns timeout-failed-requires returns-2)

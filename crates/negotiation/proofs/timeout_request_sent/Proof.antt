@@ -11,15 +11,18 @@ timeout-poll-on-requires c κs = search needs
 
 returns : tie.Need-returns
 unfolding timeoutRequestSent
-returns c = let a = c .before .before .args in c .timeout-poll-on .ensures ∙ sym (ap (λ (x : Bool). timeoutRequestSent (a .keepalive) x (a .parent) (a .control)) (c .before .if1 .taken))
+returns c =
+    let a = c .before .before .args in
+    c .timeout-poll-on .ensures ∙ sym (ap (λ (x : Bool). timeoutRequestSent (a .keepalive) x (a .parent) (a .control)) (c .before .if1 .taken))
 
-request-failed-requires : tie.Need-request-failed-requires
-request-failed-requires c κs = search needs
+timeout-failed-requires : tie.Need-timeout-failed-requires
+timeout-failed-requires c κs = search needs
 
 returns-2 : tie.Need-returns-2
 unfolding timeoutRequestSent
-returns-2 c = let a = c .before .before .args in c .request-failed .ensures ∙ sym (ap (λ (x : Bool). timeoutRequestSent (a .keepalive) x (a .parent) (a .control)) (c .before .if1 .left))
+returns-2 c =
+    let a = c .before .before .args in
+    c .timeout-failed .ensures ∙ sym (ap (λ (x : Bool). timeoutRequestSent (a .keepalive) x (a .parent) (a .control)) (c .before .if1 .left))
 
 pub timeout-request-sent-spec : {M : Type 1} → statement M
-timeout-request-sent-spec =
-    tie.close (tie.spec timeout-poll-on-requires returns request-failed-requires returns-2)
+timeout-request-sent-spec = tie.close (tie.spec timeout-poll-on-requires returns timeout-failed-requires returns-2)

@@ -1,7 +1,8 @@
 -- `timeout_started` meets its contract. Assumes nothing.
-use Rattle.exchange.specs.Exchange.{notJoined, noTimeoutResponse, timeoutStarted}
+use Rattle.exchange.specs.Exchange.{timeoutFailed, noTimeoutResponse, timeoutStarted}
 use mathlib.Core.Path.{sym, ap, _∙_}
 use Rattle.nib.specs.declared.Neighbor.{Neighbor}
+use Rattle.management.specs.declared.NegotiationAnswer.the-variants.{NegotiationNotJoined}
 use borrow.Author.Needs.{needs}
 use Rattle.negotiation.proofs.timeout_started.Statement.{statement}
 use Rattle.negotiation.proofs.timeout_started.Tie as tie
@@ -12,14 +13,14 @@ no-timeout-response-requires c κs = search needs
 enum-told : tie.Need-enum-told
 enum-told c = search needs
 
-not-joined-requires : tie.Need-not-joined-requires
-not-joined-requires c κs = search needs
+timeout-failed-requires : tie.Need-timeout-failed-requires
+timeout-failed-requires c κs = search needs
 
 returns : tie.Need-returns
 unfolding timeoutStarted
 returns c =
     let a = c .before .before .before .before .args in
-    rw (c .not-joined .ensures, c .before .before .before .no-timeout-response .ensures) (ap (λ (x : Neighbor). notJoined (a .keepalive) x (noTimeoutResponse (a .control))) (c .before .enum-told .given .1) ∙ sym (ap (λ (x : Neighbor). timeoutStarted (a .keepalive) x (a .control)) (c .before .enum-told .given .1)))
+    rw (c .timeout-failed .ensures, c .before .before .before .no-timeout-response .ensures) (ap (λ (x : Neighbor). timeoutFailed NegotiationNotJoined (a .keepalive) x (noTimeoutResponse (a .control))) (c .before .enum-told .given .1) ∙ sym (ap (λ (x : Neighbor). timeoutStarted (a .keepalive) x (a .control)) (c .before .enum-told .given .1)))
 
 enum-known-parent : tie.Need-enum-known-parent
 enum-known-parent c = search needs
@@ -34,13 +35,4 @@ returns-2 c =
     rw (c .request-timeout .ensures, c .before .before .before .before .no-timeout-response .ensures) (sym (ap (λ (x : Neighbor). timeoutStarted (a .keepalive) x (a .control)) (c .before .before .parent .given .1)))
 
 pub timeout-started-spec : {M : Type 1} → statement M
-timeout-started-spec =
-    tie.close
-    (tie.spec
-    no-timeout-response-requires
-    enum-told
-    not-joined-requires
-    returns
-    enum-known-parent
-    request-timeout-requires
-    returns-2)
+timeout-started-spec = tie.close (tie.spec no-timeout-response-requires enum-told timeout-failed-requires returns enum-known-parent request-timeout-requires returns-2)

@@ -7,16 +7,16 @@ use Rattle.negotiation.proofs.timeout_unanswered.Tie as tie
 with-polls-requires : tie.Need-with-polls-requires
 with-polls-requires c κs = search needs
 
-rejected-requires : tie.Need-rejected-requires
-rejected-requires c κs = search needs
+timeout-failed-requires : tie.Need-timeout-failed-requires
+timeout-failed-requires c κs = search needs
 
 after-polls-requires : tie.Need-after-polls-requires
 after-polls-requires c κs = search needs
 
 returns : tie.Need-returns
 unfolding timeoutUnanswered
-returns c = rw (c .after-polls .ensures, c .before .rejected .ensures, c .before .before .with-polls .ensures)
+returns c =
+    rw (c .after-polls .ensures, c .before .timeout-failed .ensures, c .before .before .with-polls .ensures)
 
 pub timeout-unanswered-spec : {M : Type 1} → statement M
-timeout-unanswered-spec =
-    tie.close (tie.spec with-polls-requires rejected-requires after-polls-requires returns)
+timeout-unanswered-spec = tie.close (tie.spec with-polls-requires timeout-failed-requires after-polls-requires returns)
