@@ -1,4 +1,4 @@
--- The candidates that a join begins with.
+-- The candidates that a join begins with (01, "Join request and confirm"; Zigbee 3.6.1.4.1.1).
 use mathlib.Core.Bool.{true, cond}
 use lib.Dec.{eqb}
 use Rattle.nib.specs.declared.NeighborTable.{NeighborTable}

@@ -6,10 +6,10 @@ ghost use Rattle.management.specs.declared.NlmeJoinStatus.the-variants.{Invalid
 ghost use Rattle.join.specs.Join.{failing, joinStarted};
 ghost use Rattle.rejoin.specs.Rejoin.{tryNext};
 ghost use Rattle.operation.specs.declared.Step.the-variants.{DiscoveryFailed, Discovered};
-ghost use Rattle.operation.specs.Operation.{asking, ending};
+ghost use Rattle.operation.specs.Operation.{asking};
 ghost use Rattle.operation.specs.declared.Phase.the-variants.{Discovery};
 ghost use Rattle.operation.specs.declared.RadioRequest.the-variants.{Scan};
-ghost use Rattle.steps.specs.Steps.{joinAsked, scanOverIn, scanOver};
+ghost use Rattle.steps.specs.Steps.{joinAsked, scanOver};
 ghost use Rattle.starts.specs.Starts.{forAssociation, forJoin};
 use management::NlmeJoinRequest;
 use management::NlmeJoinStatus;
@@ -51,10 +51,12 @@ pub fn join_asked(
 {
     let method = request.rejoin_network;
     match method {
-        RejoinNetwork::Association => association_asked(request, next, control),
-        RejoinNetwork::Orphan => join::failing(NlmeJoinStatus::InvalidRequest, control),
-        RejoinNetwork::NwkRejoin => rejoin::rejoin_started(control, request, parent),
-        RejoinNetwork::ChannelChange => join::failing(NlmeJoinStatus::InvalidRequest, control),
+        RejoinNetwork::Association => return association_asked(request, next, control),
+        RejoinNetwork::Orphan => return join::failing(NlmeJoinStatus::InvalidRequest, control),
+        RejoinNetwork::NwkRejoin => return rejoin::rejoin_started(control, request, parent),
+        RejoinNetwork::ChannelChange => {
+            return join::failing(NlmeJoinStatus::InvalidRequest, control);
+        }
     }
 }
 
@@ -66,17 +68,16 @@ fn for_association(
 ) -> Candidates
     ensures { λ r. ⌜ r ≡ forAssociation request table candidates control ⌝ }
 {
-    let nib = control.nlme.nib;
-    if nib.network_address.0 != nib::NWK_UNASSIGNED_ADDRESS {
-        return candidates;
+    if control.nlme.nib.network_address.0 == nib::NWK_UNASSIGNED_ADDRESS {
+        return scans::chosen(
+            table,
+            control.nlme.nib.stack_profile,
+            true,
+            request.extended_pan_id,
+            request.capability_information,
+        );
     }
-    scans::chosen(
-        table,
-        nib.stack_profile,
-        true,
-        request.extended_pan_id,
-        request.capability_information,
-    )
+    candidates
 }
 
 // The candidates of a join: only an association chooses them at once.
@@ -90,18 +91,20 @@ pub fn for_join(
 {
     let method = request.rejoin_network;
     match method {
-        RejoinNetwork::Association => for_association(request, table, candidates, control),
-        _ => candidates,
+        RejoinNetwork::Association => {
+            return for_association(request, table, candidates, control);
+        }
+        _ => return candidates,
     }
 }
 
-fn discovery_over(failed: bool, control: Control) -> Decision
-    ensures { λ r. ⌜ r ≡ cond failed (ending DiscoveryFailed control) (ending Discovered control) ⌝ }
+fn discovery_answer(failed: bool) -> Step
+    ensures { λ r. ⌜ r ≡ cond failed DiscoveryFailed Discovered ⌝ }
 {
     if failed {
-        return operation::ending(Step::DiscoveryFailed, control);
+        return Step::DiscoveryFailed;
     }
-    operation::ending(Step::Discovered, control)
+    Step::Discovered
 }
 
 fn rejoin_scanned(failed: bool, next: Neighbor, control: Control) -> Decision
@@ -113,21 +116,15 @@ fn rejoin_scanned(failed: bool, next: Neighbor, control: Control) -> Decision
     rejoin::try_next(NlmeJoinStatus::NotPermitted, next, control)
 }
 
-fn scan_over_in(phase: Phase, failed: bool, next: Neighbor, control: Control) -> Decision
-    ensures { λ r. ⌜ r ≡ scanOverIn phase failed next control ⌝ }
-{
-    match phase {
-        Phase::Discovery => discovery_over(failed, control),
-        Phase::RejoinScan => rejoin_scanned(failed, next, control),
-        _ => steps::unawaited(control),
-    }
-}
-
 // The outcome of a scan.
 pub fn scan_over(failed: bool, next: Neighbor, control: Control) -> Decision
     ensures { λ r. ⌜ r ≡ scanOver failed next control ⌝ }
 {
     let operation = control.operation;
     let phase = operation.phase;
-    scan_over_in(phase, failed, next, control)
+    match phase {
+        Phase::Discovery => return operation::ending(discovery_answer(failed), control),
+        Phase::RejoinScan => return rejoin_scanned(failed, next, control),
+        _ => return steps::unawaited(control),
+    }
 }

@@ -7,14 +7,14 @@ use borrow.Author.Needs.{needs}
 use Rattle.starts.proofs.for_association.Statement.{statement}
 use Rattle.starts.proofs.for_association.Tie as tie
 
-returns : tie.Need-returns
-returns c = pick-false (eqb (c .before .before .before .args .control .nlme .nib .«network_address» .0) 0xffff) _ _ (ne-eqb _ _ (c .if1 .taken))
-
 chosen-requires : tie.Need-chosen-requires
 chosen-requires c κs = search needs
 
+returns : tie.Need-returns
+returns c = c .chosen .ensures ∙ pick-true (eqb (c .before .before .before .args .control .nlme .nib .«network_address» .0) 0xffff) _ _ (eq-eqb _ _ (c .before .if1 .taken))
+
 returns-2 : tie.Need-returns-2
-returns-2 c = c .chosen .ensures ∙ pick-true (eqb (c .before .before .before .before .args .control .nlme .nib .«network_address» .0) 0xffff) _ _ (eq-eqb _ _ (c .before .if1 .left))
+returns-2 c = pick-false (eqb (c .before .before .args .control .nlme .nib .«network_address» .0) 0xffff) _ _ (ne-eqb _ _ (c .if1 .left))
 
 pub for-association-spec : {M : Type 1} → statement M
-for-association-spec = tie.close (tie.spec returns chosen-requires returns-2)
+for-association-spec = tie.close (tie.spec chosen-requires returns returns-2)
