@@ -1,12 +1,12 @@
 -- Laws of lists of lines, and of what they print. Assumes nothing.
-use Prim.Native.Nat.{ℕ, zero, suc, _+_, _-_, _*_, _<_, _≤_, zero-le}
+use Prim.Native.Nat.{ℕ, zero, suc, _-_, _*_, _<_, _≤_, zero-le}
 use mathlib.Core.Path.{_≡_, refl, sym, ap, _∙_}
 use mathlib.Core.Bool.{Bool, true, false, cond}
 use mathlib.Core.List.{List, [], _∷_, _++_, map, flatMap}
 use native.Mathlib.Nat.{le-of-suc-le-suc, not-suc-le-zero}
 use native.Mathlib.Omega.{arith}
 use lib.Dec.{eqb}
-use lib.ListN.{length, take, getD, length-append, length-map, length-take, List·getD-eq-default}
+use lib.ListN.{length, take, getD, length-append, length-take}
 use lib.Seq.{getD-take, length-take-le}
 use Rattle.lists.specs.Lists.{over}
 use Rattle.trace_lines.specs.declared.Line.{Line}
@@ -24,7 +24,7 @@ module _ {A : Type 0} where
       let e : i - length xs ≡ suc i - suc (length xs) = omega arith in
       getD-right xs k i d (le-of-suc-le-suc h) ∙ ap (λ (n : ℕ). getD k n d) e
 
-  -- the line of the element at an index among the first n of an array, and no line past them
+  -- the line of the element at an index among the first n of an array
   pub line-at : (f : A → Line) (l : List A) (n i : ℕ) (d : A) → i < length (take n l) → f (getD l i d) ≡ getD (map f (take n l)) i noLine
   line-at f l n i d h = ap f (sym (getD-take n l i d (omega (arith, length-take n l)))) ∙ go (take n l) i h
     where
@@ -32,9 +32,6 @@ module _ {A : Type 0} where
       go [] j h = absurd (not-suc-le-zero h)
       go (x ∷ xs) zero h = refl
       go (x ∷ xs) (suc j) h = go xs j (le-of-suc-le-suc h)
-
-  pub line-past : (f : A → Line) (l : List A) (i : ℕ) → length l ≤ i → noLine ≡ getD (map f l) i noLine
-  line-past f l i h = sym (List·getD-eq-default (map f l) noLine {n = i} (omega (arith, length-map l f)))
 
 -- a line prints at most 420 bytes, and so do lines in turn
 pub some-short : (l : Line) → length (someText l) ≤ 420

@@ -27,7 +27,7 @@ words-placed : placed words (
     ∷ (word.success, "Success") ∷ (word.invalidRequest, "InvalidRequest") ∷ (word.notPermitted, "NotPermitted") ∷ (word.noNetworks, "NoNetworks")
     ∷ (word.panAtCapacity, "PanAtCapacity") ∷ (word.panAccessDenied, "PanAccessDenied") ∷ (word.macError, "MacError") ∷ (word.ok, "Ok")
     ∷ (word.notJoined, "NotJoined") ∷ (word.parentLinkFailure, "ParentLinkFailure") ∷ (word.polledData, "Data") ∷ (word.polledNothing, "Nothing")
-    ∷ (word.undecodable, "Undecodable") ∷ (word.one, "1") ∷ (word.zero, "0") ∷ (word.bad, "bad") ∷ []) ≡ true
+    ∷ (word.undecodable, "Undecodable") ∷ (word.digitOne, "1") ∷ (word.digitZero, "0") ∷ (word.bad, "bad") ∷ []) ≡ true
 words-placed = refl
 
 kinds-placed : placed outputKinds (
@@ -37,7 +37,3 @@ kinds-placed : placed outputKinds (
     ∷ (kind.answer, "ww") ∷ (kind.expired, "wf") ∷ (kind.leaveIndication, "wof") ∷ (kind.timeoutResponse, "wbb")
     ∷ (kind.candidates, "wbbbbbbbbbbbbbbbb") ∷ []) ≡ true
 kinds-placed = refl
-
--- no line has the letters of kind 255
-no-letters : getD outputKinds kind.none [] ≡ []
-no-letters = refl

@@ -13,7 +13,7 @@ node = 1
 abbrev pub pair : ℕ
 pair = 2
 
--- a number: `refused`, `setchannel`, `discovered`
+-- a number: `refused`, `setchannel`, `discovered`, `bad`
 abbrev pub number : ℕ
 number = 3
 

@@ -213,8 +213,8 @@ pollWord PollMacError = word.macError
 pollWord PollUndecodable = word.undecodable
 
 abbrev pub negotiationWord : NegotiationAnswer → ℕ
-negotiationWord Negotiated = word.one
-negotiationWord NotNegotiated = word.zero
+negotiationWord Negotiated = word.digitOne
+negotiationWord NotNegotiated = word.digitZero
 negotiationWord NegotiationNotJoined = word.notJoined
 negotiationWord NegotiationMacError = word.macError
 

@@ -18,7 +18,7 @@ use Rattle.trace_input.specs.TraceInput.{callOf}
 use Rattle.trace_calls.specs.TraceCalls.{taken}
 use Rattle.trace_calls.specs.declared.Session.{Session}
 use Rattle.trace_calls.specs.declared.Said.{Said}
-use Rattle.trace_calls.specs.declared.Said.the-variants.{Nonsense, Silence, Told, Chosen, Shown}
+use Rattle.trace_calls.specs.declared.Said.the-variants.{Bad, Nothing, Told, Chosen, Shown}
 use Rattle.trace_calls.specs.declared.Turn.{Turn}
 use Rattle.trace.specs.Kind as kind
 use Rattle.trace.specs.Lines.{resetLine, noteLine, stepLine, descriptorLine, nodeLine, entryLine, failureLine, slotLines, choiceLine, badLine}
@@ -45,8 +45,8 @@ stateLines s = nodeLine (s .control .nlme) ∷ (map entryLine (entriesOf (s .tab
 
 -- what a turn says; n is the number of its line
 abbrev pub linesBy : Said → ℕ → Turn → List Line
-linesBy Nonsense n t = badLine n ∷ []
-linesBy Silence n t = []
+linesBy Bad n t = badLine n ∷ []
+linesBy Nothing n t = []
 linesBy (Told reset note step) n t = toldLines reset note step (t .networks)
 linesBy (Chosen refusal) n t = choiceLine refusal (t .list) ∷ []
 linesBy Shown n t = stateLines (t .session .state)
@@ -58,12 +58,12 @@ unfoldable pub textOf : ℕ → Turn → List ℕ
 textOf n t = flatMap someText (saidLines n t)
 
 -- the line is not of the format
-abbrev pub isNonsense : Said → Bool
-isNonsense Nonsense = true
-isNonsense Silence = false
-isNonsense (Told reset note step) = false
-isNonsense (Chosen refusal) = false
-isNonsense Shown = false
+abbrev pub isBad : Said → Bool
+isBad Bad = true
+isBad Nothing = false
+isBad (Told reset note step) = false
+isBad (Chosen refusal) = false
+isBad Shown = false
 
 -- the call that a line says, made on the session
 unfoldable pub turnOf : List ℕ → Session → Turn
@@ -82,6 +82,6 @@ after line r =
     record {
       session = turnOf line (r .session) .session;
       number = numberAfter (r .number);
-      good = not (isNonsense (turnOf line (r .session) .said));
+      good = not (isBad (turnOf line (r .session) .said));
       length = length (printed line r);
     }

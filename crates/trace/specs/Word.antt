@@ -136,11 +136,11 @@ polledNothing = 43
 abbrev pub undecodable : ℕ
 undecodable = 44
 
-abbrev pub one : ℕ
-one = 45
+abbrev pub digitOne : ℕ
+digitOne = 45
 
-abbrev pub zero : ℕ
-zero = 46
+abbrev pub digitZero : ℕ
+digitZero = 46
 
 abbrev pub bad : ℕ
 bad = 47

@@ -1,7 +1,6 @@
 // A trace answered line by line: a line read, its call made, and what is said of it printed. A line of kind 255 is no line.
 ghost use mathlib.Core.Path.{_≡_};
 ghost use Prim.Native.Nat.{_+_, _≤_, _<_};
-ghost use mathlib.Core.Bool.{not};
 ghost use mathlib.Core.List.{[], _∷_, map};
 ghost use lib.ListN.{length, getD};
 ghost use lib.Seq.{sets};
@@ -9,8 +8,7 @@ ghost use Rattle.lists.specs.Lists.{over};
 ghost use Rattle.nib.specs.Neighbors.{entriesOf};
 ghost use Rattle.candidates.specs.Candidates.{itemsOf};
 ghost use Rattle.supervision.specs.Failures.{pairsOf};
-ghost use Rattle.trace_lines.specs.TraceLines.{noLine, lineOf};
-ghost use Rattle.trace_input.specs.TraceInput.{callOf};
+ghost use Rattle.trace_lines.specs.TraceLines.{noLine};
 ghost use Rattle.trace.specs.Kind as kind;
 ghost use Rattle.trace.specs.Word as word;
 ghost use Rattle.trace.specs.Lines.{
@@ -52,7 +50,7 @@ ghost use Rattle.trace.specs.Lines.{
   choiceLine,
   badLine,
 };
-ghost use Rattle.trace.specs.Trace.{networksOf, toldLines, nlmeLines, stateLines, saidLines, someText, textOf, isNonsense, turnOf, numberAfter, printed, after};
+ghost use Rattle.trace.specs.Trace.{networksOf, toldLines, nlmeLines, stateLines, saidLines, someText, textOf, isBad, turnOf, numberAfter, printed, after};
 use candidates::CandidateList;
 use discovery::NetworkDescriptor;
 use discovery::NlmeNetworkDiscoveryConfirm;
@@ -90,7 +88,6 @@ use supervision::TransmitFailures;
 use trace_calls::Said;
 use trace_calls::Session;
 use trace_calls::Turn;
-use trace_input::Call;
 use trace_lines::Line;
 
 mod kind;
@@ -660,8 +657,8 @@ fn negotiation_word(a: NegotiationAnswer) -> u64
     ensures { λ r. ⌜ r ≡ negotiationWord a ⌝ }
 {
     match a {
-        NegotiationAnswer::Negotiated => return word::ONE,
-        NegotiationAnswer::NotNegotiated => return word::ZERO,
+        NegotiationAnswer::Negotiated => return word::DIGIT_ONE,
+        NegotiationAnswer::NotNegotiated => return word::DIGIT_ZERO,
         NegotiationAnswer::NegotiationNotJoined => return word::NOT_JOINED,
         NegotiationAnswer::NegotiationMacError => return word::MAC_ERROR,
     }
@@ -914,8 +911,8 @@ fn said_count(number: u32, turn: Turn) -> u8
 {
     let said = turn.said;
     match said {
-        Said::Nonsense => return 1,
-        Said::Silence => return 0,
+        Said::Bad => return 1,
+        Said::Nothing => return 0,
         Said::Told(_, _, _) => return 3 + network_count(turn.networks),
         Said::Chosen(_) => return 1,
         Said::Shown => return state_count(turn.session.state),
@@ -929,8 +926,8 @@ fn said_line(number: u32, turn: Turn, i: u8) -> Line
 {
     let said = turn.said;
     match said {
-        Said::Nonsense => return bad_line(number),
-        Said::Silence => return no_line(),
+        Said::Bad => return bad_line(number),
+        Said::Nothing => return no_line(),
         Said::Told(reset, note, step) => return told_line(reset, note, step, turn.networks, i),
         Said::Chosen(refusal) => return choice_line(refusal, turn.list),
         Said::Shown => return state_line(turn.session.state, i),
@@ -964,30 +961,23 @@ fn print(out: &mut [u8], number: u32, turn: Turn) -> usize
 
 // A line answered.
 
-fn is_nonsense(said: Said) -> bool
-    ensures { λ r. ⌜ r ≡ isNonsense said ⌝ }
+fn is_bad(said: Said) -> bool
+    ensures { λ r. ⌜ r ≡ isBad said ⌝ }
 {
     match said {
-        Said::Nonsense => return true,
-        Said::Silence => return false,
+        Said::Bad => return true,
+        Said::Nothing => return false,
         Said::Told(_, _, _) => return false,
         Said::Chosen(_) => return false,
         Said::Shown => return false,
     }
 }
 
-// The call that a line says.
-fn call_of(line: &[u8]) -> Call
-    ensures { λ r. ⌜ r ≡ callOf (lineOf (now (line .entry))) ⌝ }
-{
-    trace_input::call_of(trace_lines::read_line(line))
-}
-
 // The call that a line says, made.
 fn turn_of(session: Session, line: &[u8]) -> Turn
     ensures { λ r. ⌜ r ≡ turnOf (now (line .entry)) session ⌝ }
 {
-    session.take(call_of(line))
+    session.take(trace_input::call_of(trace_lines::read_line(line)))
 }
 
 // Line numbers stop at the greatest.
@@ -1010,7 +1000,7 @@ impl Run {
         let length = print(out, number, turn);
         let session = turn.session;
         let said = turn.said;
-        let good = !is_nonsense(said);
+        let good = !is_bad(said);
         Run {
             session,
             number,

@@ -89,8 +89,8 @@ pub const POLLED_NOTHING: u64 = 43;
 
 pub const UNDECODABLE: u64 = 44;
 
-pub const ONE: u64 = 45;
+pub const DIGIT_ONE: u64 = 45;
 
-pub const ZERO: u64 = 46;
+pub const DIGIT_ZERO: u64 = 46;
 
 pub const BAD: u64 = 47;

@@ -1,1 +1,2 @@
 pub mod TraceCalls
+pub mod Steps

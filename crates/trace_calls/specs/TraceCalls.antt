@@ -27,19 +27,19 @@ use Rattle.nlme.specs.declared.Nlme.{Nlme}
 use Rattle.operation.specs.declared.Operation.{Operation}
 use Rattle.operation.specs.declared.Phase.the-variants.{Idle}
 use Rattle.node.specs.Looks.{withTable}
-use Rattle.node.specs.Refusals.{refuse}
 use Rattle.node.specs.Calls.{withNode, startDiscovery, startJoin, startSend, startPoll, startReceive, startTimeout, scanned, associationOver, transmissionOver, receptionOver, tick, takeLeaveIndication, takeStatusIndication, choose}
 use Rattle.node.specs.declared.State.{State}
 use Rattle.node.specs.declared.Answer.{Answer}
 use Rattle.node.specs.declared.ScanAnswer.{ScanAnswer}
+use Rattle.node.specs.declared.ScanOutcome.{ScanOutcome}
 use Rattle.node.specs.declared.Choice.{Choice}
 use Rattle.trace_input.specs.declared.NodeFields.{NodeFields}
 use Rattle.trace_input.specs.declared.Call.{Call}
-use Rattle.trace_input.specs.declared.Call.the-variants.{Nonsense, Node, Entry, Failure, Discovery, Join, Send, Poll, Receive, Negotiate, Keepalive, Scan, Beacon, ScanFailed, Association, Transmission, Reception, Tick, TakeLeave, TakeStatus, Choose, PrintState}
+use Rattle.trace_input.specs.declared.Call.the-variants.{Bad, Node, Entry, Failure, Discovery, Join, Send, Poll, Receive, Negotiate, Keepalive, Scan, Beacon, ScanFailed, Association, Transmission, Reception, Tick, TakeLeave, TakeStatus, Choose, PrintState}
 use Rattle.trace_calls.specs.declared.Stage.{Stage}
 use Rattle.trace_calls.specs.declared.Stage.the-variants.{NoNode, SettingUp, Running}
 use Rattle.trace_calls.specs.declared.Kind.{Kind}
-use Rattle.trace_calls.specs.declared.Kind.the-variants.{NoLine, NodeLine, StateLine, BeaconLine, CallLine}
+use Rattle.trace_calls.specs.declared.Kind.the-variants.{NoLine, NodeLine, EntryLine, PairLine, ScanLine, BeaconLine, CallLine}
 use Rattle.trace_calls.specs.declared.Session.{Session}
 use Rattle.trace_calls.specs.declared.Said.{Said}
 use Rattle.trace_calls.specs.declared.Said.the-variants as said
@@ -137,16 +137,13 @@ withBeacon missing d l = record { descriptors = set (l .descriptors) (l .count -
 unfoldable pub before : Session
 before = record { state = begun noNode; stage = NoNode; missing = 0; scan = unheard 0 }
 
-abbrev pub withState : State → Session → Session
-withState st s = record { state = st; stage = s .stage; missing = s .missing; scan = s .scan }
-
--- `node` begins a scenario
-abbrev pub scenario : NodeFields → Session → Session
-scenario l s = record { state = begun l; stage = SettingUp; missing = 0; scan = s .scan }
+-- after `node`, and `e` and `f` behind it
+abbrev pub setUp : State → Session → Session
+setUp st s = record { state = st; stage = SettingUp; missing = 0; scan = s .scan }
 
 -- after a call, with the state that it leaves
-abbrev pub running : State → Session → Session
-running st s = record { state = st; stage = Running; missing = 0; scan = s .scan }
+abbrev pub running : State → PanDescriptorList → Session
+running st scan = record { state = st; stage = Running; missing = 0; scan = scan }
 
 -- in the midst of a scan's beacons
 abbrev pub awaiting : ℕ → PanDescriptorList → Session → Session
@@ -158,15 +155,15 @@ abbrev pub saying : Said → Session → Turn
 saying w s = record { session = s; said = w; networks = confirmOf []; list = listOf [] }
 
 -- a line that is not of the format leaves the session
-unfoldable pub nonsense : Session → Turn
-nonsense s = saying said.Nonsense s
+unfoldable pub bad : Session → Turn
+bad s = saying said.Bad s
 
-unfoldable pub silent : Session → Turn
-silent s = saying said.Silence s
+unfoldable pub nothing : Session → Turn
+nothing s = saying said.Nothing s
 
--- what a call answers
-unfoldable pub told : Answer → Session → Turn
-told a s = saying (said.Told (a .reset) (a .note) (a .step)) (running (a .state) s)
+-- what a call answers; the beacons of the last scan stay
+unfoldable pub told : Answer → PanDescriptorList → Turn
+told a scan = saying (said.Told (a .reset) (a .note) (a .step)) (running (a .state) scan)
 
 abbrev pub withNetworks : NlmeNetworkDiscoveryConfirm → Turn → Turn
 withNetworks n t = record { session = t .session; said = t .said; networks = n; list = t .list }
@@ -175,78 +172,69 @@ abbrev pub withList : CandidateList → Turn → Turn
 withList l t = record { session = t .session; said = t .said; networks = t .networks; list = l }
 
 -- what the outcome of a scan answers
-abbrev pub heard : ScanAnswer → Session → Turn
-heard a s = withNetworks (a .confirm) (told (a .answer) s)
+abbrev pub heard : ScanAnswer → PanDescriptorList → Turn
+heard a scan = withNetworks (a .confirm) (told (a .answer) scan)
 
-unfoldable pub scanEnded : Bool → PanDescriptorList → Session → Turn
-scanEnded failed l s = heard (scanned (record { failed = failed; list = l }) (s .state)) s
+-- "count n; then n `b` lines": the outcome reaches the node with the last of them, at once where there are none. n of them are still to come
+unfoldable pub scanAfter : ℕ → ScanOutcome → Session → Turn
+scanAfter n o s = cond (eqb n 0) (heard (scanned o (s .state)) (s .scan)) (nothing (awaiting n (o .list) s))
 
--- "count n; then n `b` lines": the outcome reaches the node with the last of them, at once where there are none
-unfoldable pub scanTaken : ℕ → Session → Turn
-scanTaken n s = cond (eqb n 0) (scanEnded false (unheard n) s) (silent (awaiting n (unheard n) s))
+-- of a scan that did not fail
+abbrev pub hearing : PanDescriptorList → ScanOutcome
+hearing l = record { failed = false; list = l }
 
-unfoldable pub beaconTaken : PanDescriptor → Session → Turn
-beaconTaken d s =
-    cond (ltb (s .missing) 2) (scanEnded false (withBeacon (s .missing) d (s .scan)) s)
-    (silent (awaiting (s .missing - 1) (withBeacon (s .missing) d (s .scan)) s))
-
--- "`e` and `f` lines follow it, at most 16 each"
-unfoldable pub entryTaken : NwkNeighbor → Session → Turn
-entryTaken e s =
-    cond (ltb (s .state .table .count) 16) (silent (withState (withTable (pushed (s .state .table) e) (s .state)) s)) (nonsense s)
-
+-- the failure pairs, and one more of them behind those in use; a full record stays
 abbrev pub pairs : State → TransmitFailures
 pairs st = st .control .nlme .«transmit_failures»
 
 abbrev pub withPairs : TransmitFailures → State → State
 withPairs f st = withNode (withFailures f (st .control .nlme)) st
 
-unfoldable pub pairTaken : TransmitFailure → Session → Turn
-pairTaken p s =
-    cond (ltb (pairs (s .state) .count) 16) (silent (withState (withPairs (failures.pairPushed (pairs (s .state)) p) (s .state)) s)) (nonsense s)
+unfoldable pub withPair : TransmitFailure → TransmitFailures → TransmitFailures
+withPair p f = cond (ltb (f .count) 16) (failures.pairPushed f p) f
 
 -- the choice of candidates on the present table
 abbrev pub choiceTold : Choice → Session → Turn
-choiceTold c s = withList (c .list) (saying (said.Chosen (c .refusal)) (running (s .state) s))
+choiceTold c s = withList (c .list) (saying (said.Chosen (c .refusal)) (running (s .state) (s .scan)))
 
 unfoldable pub chosen : ℕ → Bool → Bool → Session → Turn
 chosen n router permit s = choiceTold (choose n router permit (s .state)) s
 
 unfoldable pub shown : Session → Turn
-shown s = saying said.Shown (running (s .state) s)
+shown s = saying said.Shown (running (s .state) (s .scan))
 
 -- each line of the format, and the call that it makes
 unfoldable pub made : Call → Session → Turn
-made Nonsense s = nonsense s
-made (Node l) s = silent (scenario l s)
-made (Entry e) s = entryTaken e s
-made (Failure p) s = pairTaken p s
-made (Discovery r) s = told (startDiscovery r (s .state)) s
-made (Join r) s = told (startJoin r (s .state)) s
-made (Send destination secure) s = told (startSend destination secure (s .state)) s
-made Poll s = told (startPoll (s .state)) s
-made Receive s = told (startReceive (s .state)) s
-made Negotiate s = told (startTimeout false (s .state)) s
-made Keepalive s = told (startTimeout true (s .state)) s
-made (Scan n) s = scanTaken n s
-made (Beacon d) s = beaconTaken d s
-made ScanFailed s = scanEnded true (unheard 0) s
-made (Association o) s = told (associationOver o (s .state)) s
-made (Transmission ok) s = told (transmissionOver ok (s .state)) s
-made (Reception o) s = told (receptionOver o (s .state)) s
-made (Tick ms) s = told (tick ms (s .state)) s
-made TakeLeave s = told (takeLeaveIndication (s .state)) s
-made TakeStatus s = told (takeStatusIndication (s .state)) s
+made Bad s = bad s
+made (Node l) s = nothing (setUp (begun l) s)
+made (Entry e) s = nothing (setUp (withTable (pushed (s .state .table) e) (s .state)) s)
+made (Failure p) s = nothing (setUp (withPairs (withPair p (pairs (s .state))) (s .state)) s)
+made (Discovery r) s = told (startDiscovery r (s .state)) (s .scan)
+made (Join r) s = told (startJoin r (s .state)) (s .scan)
+made (Send destination secure) s = told (startSend destination secure (s .state)) (s .scan)
+made Poll s = told (startPoll (s .state)) (s .scan)
+made Receive s = told (startReceive (s .state)) (s .scan)
+made Negotiate s = told (startTimeout false (s .state)) (s .scan)
+made Keepalive s = told (startTimeout true (s .state)) (s .scan)
+made (Scan n) s = scanAfter n (hearing (unheard n)) s
+made (Beacon d) s = scanAfter (s .missing - 1) (hearing (withBeacon (s .missing) d (s .scan))) s
+made ScanFailed s = scanAfter 0 (record { failed = true; list = unheard 0 }) s
+made (Association o) s = told (associationOver o (s .state)) (s .scan)
+made (Transmission ok) s = told (transmissionOver ok (s .state)) (s .scan)
+made (Reception o) s = told (receptionOver o (s .state)) (s .scan)
+made (Tick ms) s = told (tick ms (s .state)) (s .scan)
+made TakeLeave s = told (takeLeaveIndication (s .state)) (s .scan)
+made TakeStatus s = told (takeStatusIndication (s .state)) (s .scan)
 made (Choose n router permit) s = chosen (n .0) router permit s
 made PrintState s = shown s
 
 -- Which lines may come
 
 abbrev pub kindOf : Call → Kind
-kindOf Nonsense = NoLine
+kindOf Bad = NoLine
 kindOf (Node l) = NodeLine
-kindOf (Entry e) = StateLine
-kindOf (Failure p) = StateLine
+kindOf (Entry e) = EntryLine
+kindOf (Failure p) = PairLine
 kindOf (Discovery r) = CallLine
 kindOf (Join r) = CallLine
 kindOf (Send destination secure) = CallLine
@@ -254,9 +242,9 @@ kindOf Poll = CallLine
 kindOf Receive = CallLine
 kindOf Negotiate = CallLine
 kindOf Keepalive = CallLine
-kindOf (Scan n) = CallLine
+kindOf (Scan n) = ScanLine
 kindOf (Beacon d) = BeaconLine
-kindOf ScanFailed = CallLine
+kindOf ScanFailed = ScanLine
 kindOf (Association o) = CallLine
 kindOf (Transmission ok) = CallLine
 kindOf (Reception o) = CallLine
@@ -266,10 +254,11 @@ kindOf TakeStatus = CallLine
 kindOf (Choose n router permit) = CallLine
 kindOf PrintState = CallLine
 
-abbrev pub settingUp : Stage → Bool
-settingUp NoNode = false
-settingUp SettingUp = true
-settingUp Running = false
+-- "`e` and `f` lines follow it, at most 16 each"
+abbrev pub hasRoom : Stage → ℕ → Bool
+hasRoom NoNode n = false
+hasRoom SettingUp n = ltb n 16
+hasRoom Running n = false
 
 abbrev pub hasNode : Stage → Bool
 hasNode NoNode = false
@@ -279,49 +268,29 @@ hasNode Running = true
 abbrev pub isBeacon : Kind → Bool
 isBeacon NoLine = false
 isBeacon NodeLine = false
-isBeacon StateLine = false
+isBeacon EntryLine = false
+isBeacon PairLine = false
+isBeacon ScanLine = false
 isBeacon BeaconLine = true
 isBeacon CallLine = false
 
--- a `node` line always; `e` and `f` from it up to the first call; calls after it
-abbrev pub fitsStage : Kind → Stage → Bool
-fitsStage NoLine st = false
-fitsStage NodeLine st = true
-fitsStage StateLine st = settingUp st
-fitsStage BeaconLine st = false
-fitsStage CallLine st = hasNode st
+-- a `node` line always; `e` and `f` from it up to the first call, with so many entries and pairs before them; calls after it
+abbrev pub mayCome : Kind → Stage → ℕ → ℕ → Bool
+mayCome NoLine st es ps = false
+mayCome NodeLine st es ps = true
+mayCome EntryLine st es ps = hasRoom st es
+mayCome PairLine st es ps = hasRoom st ps
+mayCome ScanLine st es ps = hasNode st
+mayCome BeaconLine st es ps = false
+mayCome CallLine st es ps = hasNode st
 
 -- where a beacon is due nothing else may come
-unfoldable pub fits : Call → Session → Bool
-fits c s = cond (eqb (s .missing) 0) (fitsStage (kindOf c) (s .stage)) (isBeacon (kindOf c))
+unfoldable pub fitsAt : Kind → Stage → ℕ → ℕ → ℕ → Bool
+fitsAt k st missing es ps = cond (eqb missing 0) (mayCome k st es ps) (isBeacon k)
+
+abbrev pub fits : Call → Session → Bool
+fits c s = fitsAt (kindOf c) (s .stage) (s .missing) (s .state .table .count) (pairs (s .state) .count)
 
 -- a line taken: the next session, and what the line says
 unfoldable pub taken : Call → Session → Turn
-taken c s = cond (fits c s) (made c s) (nonsense s)
-
--- The rest is what private functions yield; no promise of a public function names it.
-
--- what the node answers to a call. Other lines make none: refusal 0, which is the number of no refusal, stands there
-unfoldable pub answer : Call → State → Answer
-answer (Discovery r) st = startDiscovery r st
-answer (Join r) st = startJoin r st
-answer (Send destination secure) st = startSend destination secure st
-answer Poll st = startPoll st
-answer Receive st = startReceive st
-answer Negotiate st = startTimeout false st
-answer Keepalive st = startTimeout true st
-answer (Association o) st = associationOver o st
-answer (Transmission ok) st = transmissionOver ok st
-answer (Reception o) st = receptionOver o st
-answer (Tick ms) st = tick ms st
-answer TakeLeave st = takeLeaveIndication st
-answer TakeStatus st = takeStatusIndication st
-answer Nonsense st = refuse 0 st
-answer (Node l) st = refuse 0 st
-answer (Entry e) st = refuse 0 st
-answer (Failure p) st = refuse 0 st
-answer (Scan n) st = refuse 0 st
-answer (Beacon d) st = refuse 0 st
-answer ScanFailed st = refuse 0 st
-answer (Choose n router permit) st = refuse 0 st
-answer PrintState st = refuse 0 st
+taken c s = cond (fits c s) (made c s) (bad s)

@@ -1,13 +1,14 @@
 // A trace's lines, taken one by one: what stands between two of them, and what a line says of the node.
 ghost use mathlib.Core.Path.{_≡_};
-ghost use mathlib.Core.Bool.{true};
 ghost use mathlib.Core.List.{[]};
-ghost use Prim.Native.Nat.{_-_, _<_};
+ghost use Prim.Native.Nat.{_-_};
+ghost use Rattle.nib.specs.Neighbors.{pushed};
 ghost use Rattle.candidates.specs.Candidates.{listOf};
-ghost use Rattle.supervision.specs.Failures.{failuresOf, pairPushed};
+ghost use Rattle.supervision.specs.Failures.{failuresOf};
 ghost use Rattle.discovery.specs.Discovery.{confirmOf};
-ghost use Rattle.node.specs.Refusals.{refuse};
-ghost use Rattle.trace_calls.specs.TraceCalls.{noNode, noSignals, ownPart, idle, begun, withPairs, unheard, withBeacon, before, scenario, running, awaiting, saying, nonsense, silent, told, withNetworks, scanEnded, scanTaken, beaconTaken, entryTaken, pairTaken, chosen, shown, made, answer, kindOf, settingUp, hasNode, isBeacon, fitsStage, fits, taken};
+ghost use Rattle.node.specs.Looks.{withTable};
+ghost use Rattle.trace_calls.specs.TraceCalls.{noNode, noSignals, ownPart, idle, begun, withPair, withPairs, unheard, withBeacon, before, setUp, saying, nothing, told, withNetworks, scanAfter, chosen, kindOf, hasRoom, hasNode, isBeacon, mayCome, fitsAt, taken};
+ghost use Rattle.trace_calls.specs.Steps.{stateAfter, heardOf, answer, called};
 use candidates::CandidateList;
 use discovery::NlmeNetworkDiscoveryConfirm;
 use management::LeaveIndicationSlot;
@@ -64,8 +65,8 @@ pub struct Session {
 
 // What a line says: that it is not of the format; nothing; an answer, with its reset note; a choice of candidates, with its refusal, 0 for none; the state.
 pub enum Said {
-    Nonsense,
-    Silence,
+    Bad,
+    Nothing,
     Told(bool, Note, Step),
     Chosen(u8),
     Shown,
@@ -190,29 +191,51 @@ fn begun(node: NodeFields) -> State
     }
 }
 
-// One pair more behind those in use.
+// One pair more behind those in use; a full record stays.
 fn with_pair(failures: TransmitFailures, p: TransmitFailure) -> TransmitFailures
-    requires { ⌜ failures .count < 16 ⌝ }
-    ensures { λ r. ⌜ r ≡ pairPushed failures p ⌝ }
+    ensures { λ r. ⌜ r ≡ withPair p failures ⌝ }
 {
     let count = failures.count;
     let mut out = failures;
+    if 16 <= count {
+        return out;
+    }
     let at = count as usize;
     out.pairs[at] = p;
     out.count = count + 1;
     out
 }
 
-fn with_failures(state: State, failures: TransmitFailures) -> State
-    ensures { λ r. ⌜ r ≡ withPairs failures state ⌝ }
+fn with_entry(state: State, e: NwkNeighbor) -> State
+    ensures { λ r. ⌜ r ≡ withTable (pushed (state .table) e) state ⌝ }
+{
+    let mut out = state;
+    out.table = state.table.push(e);
+    out
+}
+
+fn with_failure(state: State, p: TransmitFailure) -> State
+    ensures { λ r. ⌜ r ≡ withPairs (withPair p (state .control .nlme .«transmit_failures»)) state ⌝ }
 {
     let mut nlme = state.control.nlme;
-    nlme.transmit_failures = failures;
+    nlme.transmit_failures = with_pair(nlme.transmit_failures, p);
     let mut control = state.control;
     control.nlme = nlme;
     let mut out = state;
     out.control = control;
     out
+}
+
+// The state after a line that sets it up.
+fn state_after(state: State, call: Call) -> State
+    ensures { λ r. ⌜ r ≡ stateAfter call state ⌝ }
+{
+    match call {
+        Call::Node(node) => return begun(node),
+        Call::Entry(e) => return with_entry(state, e),
+        Call::Failure(p) => return with_failure(state, p),
+        _ => return state,
+    }
 }
 
 // The beacons of a scan.
@@ -273,21 +296,51 @@ fn no_networks() -> NlmeNetworkDiscoveryConfirm
     discovery::network_descriptors(none)
 }
 
-// What the node answers to a call.
-
-// What stands for the answer where a line makes no call.
-fn no_answer(state: State) -> Answer
-    ensures { λ r. ⌜ r ≡ refuse 0 state ⌝ }
+// One beacon less to come.
+fn one_less(missing: u32) -> u32
+    ensures { λ r. ⌜ r ≡ missing - 1 ⌝ }
 {
-    Answer {
-        state,
-        reset: false,
-        note: Note::NoNote,
-        step: Step::Refused(0),
-        polls_used: 0,
+    if missing == 0 {
+        return 0;
+    }
+    missing - 1
+}
+
+// How many beacons of a scan are still to come after a line, and its outcome as far as it was heard.
+struct ScanSoFar {
+    missing: u32,
+    outcome: ScanOutcome,
+}
+
+fn heard(list: PanDescriptorList, missing: u32, call: Call) -> ScanSoFar
+    ensures { λ r. ⌜ r ≡ heardOf list missing call ⌝ }
+{
+    match call {
+        Call::Scan(n) => return ScanSoFar {
+            missing: n,
+            outcome: ScanOutcome {
+                failed: false,
+                list: unheard(n as usize),
+            },
+        },
+        Call::Beacon(d) => return ScanSoFar {
+            missing: one_less(missing),
+            outcome: ScanOutcome {
+                failed: false,
+                list: with_beacon(list, missing, d),
+            },
+        },
+        _ => return ScanSoFar {
+            missing: 0,
+            outcome: ScanOutcome {
+                failed: true,
+                list: unheard(0),
+            },
+        },
     }
 }
 
+// What the node answers to a call; lines that make none don't come here.
 fn answer(state: State, call: Call) -> Answer
     ensures { λ r. ⌜ r ≡ answer call state ⌝ }
 {
@@ -304,8 +357,7 @@ fn answer(state: State, call: Call) -> Answer
         Call::Reception(outcome) => return state.reception_over(outcome),
         Call::Tick(ms) => return state.tick_parent_timeout(ms),
         Call::TakeLeave => return state.take_leave_indication(),
-        Call::TakeStatus => return state.take_nwk_status_indication(),
-        _ => return no_answer(state),
+        _ => return state.take_nwk_status_indication(),
     }
 }
 
@@ -324,197 +376,134 @@ impl Session {
             scan,
         }
     }
+}
 
-    fn running(self, state: State) -> Session
-        ensures { λ r. ⌜ r ≡ running state self ⌝ }
-    {
-        let scan = self.scan;
-        Session {
+// What a line says that tells of no networks and no candidates, with the session that it leaves.
+fn turn_saying(
+    state: State,
+    stage: Stage,
+    missing: u32,
+    scan: PanDescriptorList,
+    said: Said,
+) -> Turn
+    ensures { λ r. ⌜ r ≡ saying said (record { state = state; stage = stage; missing = missing; scan = scan }) ⌝ }
+{
+    let networks = no_networks();
+    let list = no_candidates();
+    Turn {
+        session: Session {
             state,
-            stage: Stage::Running,
-            missing: 0,
-            scan,
-        }
-    }
-
-    fn awaiting(self, missing: u32, scan: PanDescriptorList) -> Session
-        ensures { λ r. ⌜ r ≡ awaiting missing scan self ⌝ }
-    {
-        let state = self.state;
-        Session {
-            state,
-            stage: Stage::Running,
+            stage,
             missing,
             scan,
-        }
+        },
+        said,
+        networks,
+        list,
     }
+}
 
-    fn saying(self, said: Said) -> Turn
-        ensures { λ r. ⌜ r ≡ saying said self ⌝ }
-    {
-        let networks = no_networks();
-        let list = no_candidates();
-        Turn {
-            session: self,
-            said,
-            networks,
-            list,
-        }
-    }
-
-    fn nonsense(self) -> Turn
-        ensures { λ r. ⌜ r ≡ nonsense self ⌝ }
-    {
-        self.saying(Said::Nonsense)
-    }
-
-    fn silent(self) -> Turn
-        ensures { λ r. ⌜ r ≡ silent self ⌝ }
-    {
-        self.saying(Said::Silence)
-    }
-
-    // A call's answer with the networks that it tells of, and the state that it leaves.
-    fn told(self, answer: Answer, networks: NlmeNetworkDiscoveryConfirm) -> Turn
-        ensures { λ r. ⌜ r ≡ withNetworks networks (told answer self) ⌝ }
-    {
-        let note = answer.note;
-        let step = answer.step;
-        let session = self.running(answer.state);
-        let list = no_candidates();
-        Turn {
-            session,
-            said: Said::Told(answer.reset, note, step),
-            networks,
-            list,
-        }
-    }
-
-    // The outcome of a scan: a list of beacons, or a failure.
-    fn scan_ended(self, failed: bool, list: PanDescriptorList) -> Turn
-        ensures { λ r. ⌜ r ≡ scanEnded failed list self ⌝ }
-    {
-        let outcome = ScanOutcome { failed, list };
-        let scanned = self.state.scan_over(outcome);
-        self.told(scanned.answer, scanned.confirm)
-    }
-
-    fn beacon(self, d: PanDescriptor) -> Turn
-        ensures { λ r. ⌜ r ≡ beaconTaken d self ⌝ }
-    {
-        let missing = self.missing;
-        let list = with_beacon(self.scan, missing, d);
-        if missing < 2 {
-            return self.scan_ended(false, list);
-        }
-        let next = self.awaiting(missing - 1, list);
-        next.silent()
-    }
-
-    fn scan(self, n: u32) -> Turn
-        ensures { λ r. ⌜ r ≡ scanTaken n self ⌝ }
-    {
-        let list = unheard(n as usize);
-        if n == 0 {
-            return self.scan_ended(false, list);
-        }
-        let next = self.awaiting(n, list);
-        next.silent()
-    }
-
-    fn node(self, node: NodeFields) -> Turn
-        ensures { λ r. ⌜ r ≡ silent (scenario node self) ⌝ }
-    {
-        let state = begun(node);
-        let scan = self.scan;
-        let next = Session {
+// A call's answer with the networks that it tells of, and the state that it leaves.
+fn told(scan: PanDescriptorList, answer: Answer, networks: NlmeNetworkDiscoveryConfirm) -> Turn
+    ensures { λ r. ⌜ r ≡ withNetworks networks (told answer scan) ⌝ }
+{
+    let state = answer.state;
+    let note = answer.note;
+    let step = answer.step;
+    let list = no_candidates();
+    Turn {
+        session: Session {
             state,
-            stage: Stage::SettingUp,
+            stage: Stage::Running,
             missing: 0,
             scan,
-        };
-        next.silent()
+        },
+        said: Said::Told(answer.reset, note, step),
+        networks,
+        list,
+    }
+}
+
+impl Session {
+    // `node`, `e` and `f`.
+    fn set_up(self, call: Call) -> Turn
+        ensures { λ r. ⌜ r ≡ nothing (setUp (stateAfter call (self .state)) self) ⌝ }
+    {
+        turn_saying(
+            state_after(self.state, call),
+            Stage::SettingUp,
+            0,
+            self.scan,
+            Said::Nothing,
+        )
     }
 
-    fn entry(self, e: NwkNeighbor) -> Turn
-        ensures { λ r. ⌜ r ≡ entryTaken e self ⌝ }
+    // `scan`, `b` and `scanfail`: the outcome reaches the node with the last beacon.
+    fn scan_line(self, call: Call) -> Turn
+        ensures { λ r. ⌜ r ≡ scanAfter (heardOf (self .scan) (self .missing) call .missing) (heardOf (self .scan) (self .missing) call .outcome) self ⌝ }
     {
-        if 16 <= self.state.table.count {
-            return self.nonsense();
+        let so_far = heard(self.scan, self.missing, call);
+        if so_far.missing == 0 {
+            let scanned = self.state.scan_over(so_far.outcome);
+            return told(self.scan, scanned.answer, scanned.confirm);
         }
-        let mut state = self.state;
-        state.table = self.state.table.push(e);
-        let mut next = self;
-        next.state = state;
-        next.silent()
-    }
-
-    fn failure(self, p: TransmitFailure) -> Turn
-        ensures { λ r. ⌜ r ≡ pairTaken p self ⌝ }
-    {
-        if 16 <= self.state.control.nlme.transmit_failures.count {
-            return self.nonsense();
-        }
-        let failures = with_pair(self.state.control.nlme.transmit_failures, p);
-        let mut next = self;
-        next.state = with_failures(self.state, failures);
-        next.silent()
+        turn_saying(
+            self.state,
+            Stage::Running,
+            so_far.missing,
+            so_far.outcome.list,
+            Said::Nothing,
+        )
     }
 
     fn chosen(self, network: ExtendedPanId, router: bool, permit: bool) -> Turn
         ensures { λ r. ⌜ r ≡ chosen (network .0) router permit self ⌝ }
     {
         let choice = self.state.select_candidates(network, router, permit);
-        let session = self.running(self.state);
+        let state = self.state;
+        let scan = self.scan;
         let networks = no_networks();
         let list = choice.list;
         Turn {
-            session,
+            session: Session {
+                state,
+                stage: Stage::Running,
+                missing: 0,
+                scan,
+            },
             said: Said::Chosen(choice.refusal),
             networks,
             list,
         }
     }
 
-    fn answered(self, call: Call) -> Turn
-        ensures { λ r. ⌜ r ≡ told (answer call (self .state)) self ⌝ }
-    {
-        self.told(answer(self.state, call), no_networks())
-    }
-
-    fn shown(self) -> Turn
-        ensures { λ r. ⌜ r ≡ shown self ⌝ }
-    {
-        let next = self.running(self.state);
-        next.saying(Said::Shown)
-    }
-
-    // A line where it may come.
-    fn made(self, call: Call) -> Turn
-        ensures { λ r. ⌜ r ≡ made call self ⌝ }
+    // Any other line.
+    fn called(self, call: Call) -> Turn
+        ensures { λ r. ⌜ r ≡ called call self ⌝ }
     {
         match call {
-            Call::Nonsense => return self.nonsense(),
-            Call::Node(node) => return self.node(node),
-            Call::Entry(e) => return self.entry(e),
-            Call::Failure(p) => return self.failure(p),
-            Call::Scan(n) => return self.scan(n),
-            Call::Beacon(d) => return self.beacon(d),
-            Call::ScanFailed => return self.scan_ended(true, unheard(0)),
             Call::Choose(network, router, permit) => return self.chosen(network, router, permit),
-            Call::PrintState => return self.shown(),
-            _ => return self.answered(call),
+            Call::PrintState => return turn_saying(
+                self.state,
+                Stage::Running,
+                0,
+                self.scan,
+                Said::Shown,
+            ),
+            _ => return told(self.scan, answer(self.state, call), no_networks()),
         }
     }
 }
 
 // Which lines may come.
 
-// The kind of a line: none of the format; `node`; `e` or `f`; `b`; any other.
+// The kind of a line: none of the format; `node`; `e`; `f`; `scan` or `scanfail`; `b`; any other.
 enum Kind {
     NoLine,
     NodeLine,
-    StateLine,
+    EntryLine,
+    PairLine,
+    ScanLine,
     BeaconLine,
     CallLine,
 }
@@ -523,21 +512,24 @@ fn kind_of(call: Call) -> Kind
     ensures { λ r. ⌜ r ≡ kindOf call ⌝ }
 {
     match call {
-        Call::Nonsense => return Kind::NoLine,
+        Call::Bad => return Kind::NoLine,
         Call::Node(_) => return Kind::NodeLine,
-        Call::Entry(_) => return Kind::StateLine,
-        Call::Failure(_) => return Kind::StateLine,
+        Call::Entry(_) => return Kind::EntryLine,
+        Call::Failure(_) => return Kind::PairLine,
+        Call::Scan(_) => return Kind::ScanLine,
+        Call::ScanFailed => return Kind::ScanLine,
         Call::Beacon(_) => return Kind::BeaconLine,
         _ => return Kind::CallLine,
     }
 }
 
-fn setting_up(stage: Stage) -> bool
-    ensures { λ r. ⌜ r ≡ settingUp stage ⌝ }
+// Whether a line of the state may come, with so many of its kind before it.
+fn has_room(stage: Stage, count: u8) -> bool
+    ensures { λ r. ⌜ r ≡ hasRoom stage count ⌝ }
 {
     match stage {
         Stage::NoNode => return false,
-        Stage::SettingUp => return true,
+        Stage::SettingUp => return count < 16,
         Stage::Running => return false,
     }
 }
@@ -558,43 +550,58 @@ fn is_beacon(kind: Kind) -> bool
     match kind {
         Kind::NoLine => return false,
         Kind::NodeLine => return false,
-        Kind::StateLine => return false,
+        Kind::EntryLine => return false,
+        Kind::PairLine => return false,
+        Kind::ScanLine => return false,
         Kind::BeaconLine => return true,
         Kind::CallLine => return false,
     }
 }
 
-// Whether a line may come where no beacon is due.
-fn fits_stage(kind: Kind, stage: Stage) -> bool
-    ensures { λ r. ⌜ r ≡ fitsStage kind stage ⌝ }
+// Whether a line may come where no beacon is due, with so many entries and pairs before it.
+fn may_come(kind: Kind, stage: Stage, entries: u8, pairs: u8) -> bool
+    ensures { λ r. ⌜ r ≡ mayCome kind stage entries pairs ⌝ }
 {
     match kind {
         Kind::NoLine => return false,
         Kind::NodeLine => return true,
-        Kind::StateLine => return setting_up(stage),
+        Kind::EntryLine => return has_room(stage, entries),
+        Kind::PairLine => return has_room(stage, pairs),
+        Kind::ScanLine => return has_node(stage),
         Kind::BeaconLine => return false,
         Kind::CallLine => return has_node(stage),
     }
 }
 
-impl Session {
-    fn fits(self, call: Call) -> bool
-        ensures { λ r. ⌜ r ≡ fits call self ⌝ }
-    {
-        let kind = kind_of(call);
-        let stage = self.stage;
-        if self.missing == 0 {
-            return fits_stage(kind, stage);
-        }
-        is_beacon(kind)
+fn fits(kind: Kind, stage: Stage, missing: u32, entries: u8, pairs: u8) -> bool
+    ensures { λ r. ⌜ r ≡ fitsAt kind stage missing entries pairs ⌝ }
+{
+    if missing == 0 {
+        return may_come(kind, stage, entries, pairs);
     }
+    is_beacon(kind)
+}
 
+impl Session {
     pub fn take(self, call: Call) -> Turn
         ensures { λ r. ⌜ r ≡ taken call self ⌝ }
     {
-        if self.fits(call) {
-            return self.made(call);
+        let kind = kind_of(call);
+        let stage = self.stage;
+        if !fits(
+            kind,
+            stage,
+            self.missing,
+            self.state.table.count,
+            self.state.control.nlme.transmit_failures.count,
+        ) {
+            return turn_saying(self.state, stage, self.missing, self.scan, Said::Bad);
         }
-        self.nonsense()
+        match kind {
+            Kind::ScanLine => return self.scan_line(call),
+            Kind::BeaconLine => return self.scan_line(call),
+            Kind::CallLine => return self.called(call),
+            _ => return self.set_up(call),
+        }
     }
 }

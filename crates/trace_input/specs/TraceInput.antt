@@ -90,17 +90,14 @@ nibOf l =
       «leave_request_allowed» = flag 11 l;
     }
 
-abbrev pub nodeFrom : Nib → Line → NodeFields
-nodeFrom n l =
+abbrev pub nodeOf : Line → NodeFields
+nodeOf l =
     record {
-      nib = n;
+      nib = nibOf l;
       «nwk_seq» = bits8 12 l;
       «pending_timeout_request» = bits8 13 l;
       «remaining_ms» = bits32 14 l;
     }
-
-abbrev pub nodeOf : Line → NodeFields
-nodeOf l = nodeFrom (nibOf l) l
 
 -- of `e`: device type (0 coordinator, 1 router, 2 end device, other numbers invalid)
 unfoldable pub deviceTypeOf : ℕ → DeviceType
@@ -139,11 +136,8 @@ abbrev pub failureOf : Line → TransmitFailure
 failureOf l = record { address = short 1 l; count = bits8 2 l }
 
 -- of `discovery` and `join`: first channel, channel past the last, duration
-abbrev pub rangeOf : ℕ → ℕ → ℕ → ScanRange
-rangeOf first past duration = record { first = first % 256; past = past % 256; duration = duration % 256 }
-
 abbrev pub rangeFrom : ℕ → Line → ScanRange
-rangeFrom k l = rangeOf (field k l) (field (k + 1) l) (field (k + 2) l)
+rangeFrom k l = record { first = bits8 k l; past = bits8 (k + 1) l; duration = bits8 (k + 2) l }
 
 -- of `join`: kind (0 association, 1 orphan, 2 NWK rejoin, 3 channel change)
 unfoldable pub rejoinNetworkOf : ℕ → RejoinNetwork
@@ -160,7 +154,7 @@ joinRequestOf l =
       scan = rangeFrom 5 l;
     }
 
--- the stack profile field of a beacon (Zigbee Annex D): from bit 0 stack profile, 4 protocol version, 10 router capacity, 11 depth, 15 end device capacity
+-- the stack profile field of a beacon (Zigbee Annex D): from bit 0 stack profile, 4 protocol version, 10 router capacity, 11 depth, 15 end device capacity; each part comes back (proofs/StackProfiles.antt)
 abbrev pub packed : ℕ → ℕ → ℕ → ℕ → ℕ → ℕ
 packed profile version router depth device = profile + version * 16 + router * 1024 + depth * 2048 + device * 32768
 
@@ -169,8 +163,8 @@ stackProfileOf l = record { 0 = packed (bits4 12 l) (bits4 13 l) (field 7 l % 2)
 
 -- `b`: channel, PAN id, address mode, address, extended PAN id, permit, router capacity, end device capacity, depth, update id, lqi, stack profile,
 -- protocol version, beacon order, superframe order; the address as its mode has it
-abbrev pub beaconFrom : Address → StackProfile → Line → PanDescriptor
-beaconFrom a profile l =
+abbrev pub beaconOf : Address → Line → PanDescriptor
+beaconOf a l =
     record {
       channel = bits8 1 l;
       «coord_pan_id» = panId 2 l;
@@ -178,14 +172,11 @@ beaconFrom a profile l =
       «superframe_spec» = record { «beacon_order» = bits8 14 l; «superframe_order» = bits8 15 l; «association_permit» = flag 6 l };
       «link_quality» = bits8 11 l;
       «zigbee_beacon» = record {
-        «stack_profile» = profile;
+        «stack_profile» = stackProfileOf l;
         «extended_pan_id» = extendedPanId 5 l;
         «update_id» = bits8 10 l;
       };
     }
-
-abbrev pub beaconOf : Address → Line → PanDescriptor
-beaconOf a l = beaconFrom a (stackProfileOf l) l
 
 -- `associate`: status, short address, IEEE address
 abbrev pub associationOf : Line → AssociationResponse
@@ -248,4 +239,4 @@ calls l =
 
 -- what a line says; one of another kind is not of the format
 abbrev pub callOf : Line → Call
-callOf l = getD (calls l) (l .kind) call.Nonsense
+callOf l = getD (calls l) (l .kind) call.Bad

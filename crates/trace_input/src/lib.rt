@@ -1,14 +1,11 @@
 // What a line of a trace says: the arguments of a call, from the numbers of the line.
 ghost use mathlib.Core.Path.{_≡_};
-ghost use mathlib.Core.List.{[]};
 ghost use Prim.Native.Nat.{_<_, _≤_};
 ghost use Rattle.mlme.specs.declared.Address.the-variants.{Short, Extended};
-ghost use Rattle.frame.specs.declared.ReceivedFrame.the-variants.{Data, RejoinResponseCommand, TimeoutResponseCommand, LeaveCommand, OtherCommand};
-ghost use Rattle.join.specs.declared.AssociationOutcome.the-variants.{Associated, AssociationFailed};
-ghost use Rattle.node.specs.declared.ReceptionOutcome.the-variants.{NoData, ReceptionFailed, Received};
-ghost use Rattle.trace_input.specs.declared.Call.the-variants.{Entry, Failure, Discovery, Join, Send, Choose, Association, Beacon, Tick, Scan, Node, Reception};
-ghost use Rattle.supervision.specs.Failures.{failuresOf};
-ghost use Rattle.trace_input.specs.TraceInput.{nibOf, nodeOf, deviceTypeOf, nodeFrom, entryOf, entryWith, failureOf, rangeOf, rangeFrom, rejoinNetworkOf, joinRequestOf, stackProfileOf, beaconFrom, beaconOf, bits32, flag, extendedPanId, panId, short, ieee, associationOf, ieeeOf, sourceOf, rejoinResponseOf, timeoutResponseOf, leaveOptionsOf, callOf};
+ghost use Rattle.join.specs.declared.AssociationOutcome.the-variants.{Associated};
+ghost use Rattle.node.specs.declared.ReceptionOutcome.the-variants.{Received};
+ghost use Rattle.trace_input.specs.declared.Call.the-variants.{Reception};
+ghost use Rattle.trace_input.specs.TraceInput.{nibOf, nodeOf, deviceTypeOf, entryOf, entryWith, failureOf, rangeFrom, rejoinNetworkOf, joinRequestOf, stackProfileOf, beaconOf, bits32, flag, extendedPanId, panId, short, ieee, associationOf, ieeeOf, sourceOf, rejoinResponseOf, timeoutResponseOf, leaveOptionsOf, callOf};
 use frame::LeaveOptions;
 use frame::ReceivedFrame;
 use frame::Source;
@@ -45,9 +42,9 @@ pub struct NodeFields {
     pub remaining_ms: u32,
 }
 
-// What a line of the input says. `Nonsense` is a line that is not of the format.
+// What a line of the input says. `Bad` is a line that is not of the format.
 pub enum Call {
-    Nonsense,
+    Bad,
     Node(NodeFields),
     Entry(NwkNeighbor),
     Failure(TransmitFailure),
@@ -148,9 +145,10 @@ fn nib_of(line: Line) -> Nib
     }
 }
 
-fn node_from(line: Line, nib: Nib) -> NodeFields
-    ensures { λ r. ⌜ r ≡ nodeFrom nib line ⌝ }
+fn node_of(line: Line) -> NodeFields
+    ensures { λ r. ⌜ r ≡ nodeOf line ⌝ }
 {
+    let nib = nib_of(line);
     let n = line.numbers;
     NodeFields {
         nib,
@@ -160,13 +158,15 @@ fn node_from(line: Line, nib: Nib) -> NodeFields
     }
 }
 
-fn range_from(first: u64, past: u64, duration: u64) -> ScanRange
-    ensures { λ r. ⌜ r ≡ rangeOf first past duration ⌝ }
+fn range_of(line: Line, k: usize) -> ScanRange
+    requires { ⌜ k < 18 ⌝ }
+    ensures { λ r. ⌜ r ≡ rangeFrom k line ⌝ }
 {
+    let n = line.numbers;
     ScanRange {
-        first: (first % 256) as u8,
-        past: (past % 256) as u8,
-        duration: (duration % 256) as u8,
+        first: (n[k] % 256) as u8,
+        past: (n[k + 1] % 256) as u8,
+        duration: (n[k + 2] % 256) as u8,
     }
 }
 
@@ -186,7 +186,7 @@ fn join_request_of(line: Line) -> NlmeJoinRequest
 {
     let n = line.numbers;
     let rejoin_network = rejoin_network_of(n[1]);
-    let scan = range_from(n[5], n[6], n[7]);
+    let scan = range_of(line, 5);
     NlmeJoinRequest {
         extended_pan_id: ExtendedPanId(n[2]),
         rejoin_network,
@@ -206,9 +206,10 @@ fn stack_profile_of(line: Line) -> StackProfile
     StackProfile(packed as u16)
 }
 
-fn beacon_from(line: Line, coord_address: Address, stack_profile: StackProfile) -> PanDescriptor
-    ensures { λ r. ⌜ r ≡ beaconFrom «coord_address» «stack_profile» line ⌝ }
+fn beacon_of(line: Line, coord_address: Address) -> PanDescriptor
+    ensures { λ r. ⌜ r ≡ beaconOf «coord_address» line ⌝ }
 {
+    let stack_profile = stack_profile_of(line);
     let n = line.numbers;
     let superframe_spec = SuperframeSpecification {
         beacon_order: (n[14] % 256) as u8,
@@ -311,18 +312,6 @@ fn leave_options_of(line: Line) -> LeaveOptions
     }
 }
 
-fn beacon_of(line: Line, coord_address: Address) -> PanDescriptor
-    ensures { λ r. ⌜ r ≡ beaconOf «coord_address» line ⌝ }
-{
-    return beacon_from(line, coord_address, stack_profile_of(line));
-}
-
-fn node_of(line: Line) -> NodeFields
-    ensures { λ r. ⌜ r ≡ nodeOf line ⌝ }
-{
-    return node_from(line, nib_of(line));
-}
-
 fn flag_of(line: Line, k: usize) -> bool
     requires { ⌜ k < 20 ⌝ }
     ensures { λ r. ⌜ r ≡ flag k line ⌝ }
@@ -346,140 +335,11 @@ fn network_of(line: Line) -> ExtendedPanId
     ExtendedPanId(n[1])
 }
 
-fn range_of(line: Line) -> ScanRange
-    ensures { λ r. ⌜ r ≡ rangeFrom 1 line ⌝ }
-{
-    let n = line.numbers;
-    return range_from(n[1], n[2], n[3]);
-}
-
-// Lines that carry fields, as calls.
-
-fn entry_line(line: Line) -> Call
-    ensures { λ r. ⌜ r ≡ Entry (entryOf line) ⌝ }
-{
-    Call::Entry(entry_of(line))
-}
-
-fn beacon_line(line: Line, coord_address: Address) -> Call
-    ensures { λ r. ⌜ r ≡ Beacon (beaconOf «coord_address» line) ⌝ }
-{
-    Call::Beacon(beacon_of(line, coord_address))
-}
-
 fn number_of(line: Line) -> u32
     ensures { λ r. ⌜ r ≡ bits32 1 line ⌝ }
 {
     let n = line.numbers;
     (n[1] % 4294967296) as u32
-}
-
-fn tick_line(line: Line) -> Call
-    ensures { λ r. ⌜ r ≡ Tick (bits32 1 line) ⌝ }
-{
-    Call::Tick(number_of(line))
-}
-
-fn scan_line(line: Line) -> Call
-    ensures { λ r. ⌜ r ≡ Scan (bits32 1 line) ⌝ }
-{
-    Call::Scan(number_of(line))
-}
-
-fn node_line(line: Line) -> Call
-    ensures { λ r. ⌜ r ≡ Node (nodeOf line) ⌝ }
-{
-    Call::Node(node_of(line))
-}
-
-fn no_data() -> Call
-    ensures { λ r. ⌜ r ≡ Reception NoData ⌝ }
-{
-    Call::Reception(ReceptionOutcome::NoData)
-}
-
-fn reception_failed() -> Call
-    ensures { λ r. ⌜ r ≡ Reception ReceptionFailed ⌝ }
-{
-    Call::Reception(ReceptionOutcome::ReceptionFailed)
-}
-
-fn association_line(line: Line) -> Call
-    ensures { λ r. ⌜ r ≡ Association (Associated (associationOf line)) ⌝ }
-{
-    Call::Association(association_of(line))
-}
-
-fn association_failed() -> Call
-    ensures { λ r. ⌜ r ≡ Association AssociationFailed ⌝ }
-{
-    Call::Association(AssociationOutcome::AssociationFailed)
-}
-
-fn discovery_line(line: Line) -> Call
-    ensures { λ r. ⌜ r ≡ Discovery (rangeFrom 1 line) ⌝ }
-{
-    Call::Discovery(range_of(line))
-}
-
-fn join_line(line: Line) -> Call
-    ensures { λ r. ⌜ r ≡ Join (joinRequestOf line) ⌝ }
-{
-    Call::Join(join_request_of(line))
-}
-
-fn send_line(line: Line) -> Call
-    ensures { λ r. ⌜ r ≡ Send (short 1 line) (flag 2 line) ⌝ }
-{
-    Call::Send(short_of(line, 1), flag_of(line, 2))
-}
-
-fn choose_line(line: Line) -> Call
-    ensures { λ r. ⌜ r ≡ Choose (extendedPanId 1 line) (flag 2 line) (flag 3 line) ⌝ }
-{
-    Call::Choose(network_of(line), flag_of(line, 2), flag_of(line, 3))
-}
-
-fn failure_line(line: Line) -> Call
-    ensures { λ r. ⌜ r ≡ Failure (failureOf line) ⌝ }
-{
-    Call::Failure(failure_of(line))
-}
-
-fn data_of(line: Line) -> ReceivedFrame
-    ensures { λ r. ⌜ r ≡ Data (sourceOf line) ⌝ }
-{
-    ReceivedFrame::Data(source_of(line))
-}
-
-fn rejoin_response_frame(line: Line) -> ReceivedFrame
-    ensures { λ r. ⌜ r ≡ RejoinResponseCommand (sourceOf line) (rejoinResponseOf line) ⌝ }
-{
-    ReceivedFrame::RejoinResponseCommand(source_of(line), rejoin_response_of(line))
-}
-
-fn timeout_response_frame(line: Line) -> ReceivedFrame
-    ensures { λ r. ⌜ r ≡ TimeoutResponseCommand (sourceOf line) (timeoutResponseOf line) ⌝ }
-{
-    ReceivedFrame::TimeoutResponseCommand(source_of(line), timeout_response_of(line))
-}
-
-fn leave_frame(line: Line) -> ReceivedFrame
-    ensures { λ r. ⌜ r ≡ LeaveCommand (sourceOf line) (short 3 line) (leaveOptionsOf line) ⌝ }
-{
-    ReceivedFrame::LeaveCommand(source_of(line), short_of(line, 3), leave_options_of(line))
-}
-
-fn other_command(line: Line) -> ReceivedFrame
-    ensures { λ r. ⌜ r ≡ OtherCommand (sourceOf line) ⌝ }
-{
-    ReceivedFrame::OtherCommand(source_of(line))
-}
-
-fn received(frame: ReceivedFrame) -> Call
-    ensures { λ r. ⌜ r ≡ Reception (Received frame) ⌝ }
-{
-    Call::Reception(ReceptionOutcome::Received(frame))
 }
 
 // Calls by the kinds of their lines, in parts, so that each is proved by itself.
@@ -490,13 +350,13 @@ fn call_of_0_to_6(line: Line) -> Call
 {
     let kind = line.kind;
     match kind {
-        0 => return entry_line(line),
-        1 => return beacon_line(line, short_sender(line)),
-        2 => return beacon_line(line, extended_sender(line)),
-        3 => return no_data(),
+        0 => return Call::Entry(entry_of(line)),
+        1 => return Call::Beacon(beacon_of(line, short_sender(line))),
+        2 => return Call::Beacon(beacon_of(line, extended_sender(line))),
+        3 => return Call::Reception(ReceptionOutcome::NoData),
         4 => return Call::Transmission(true),
-        5 => return tick_line(line),
-        _ => return node_line(line),
+        5 => return Call::Tick(number_of(line)),
+        _ => return Call::Node(node_of(line)),
     }
 }
 
@@ -506,12 +366,12 @@ fn call_of_7_to_12(line: Line) -> Call
 {
     let kind = line.kind;
     match kind {
-        7 => return scan_line(line),
+        7 => return Call::Scan(number_of(line)),
         8 => return Call::Transmission(false),
         9 => return Call::ScanFailed,
-        10 => return reception_failed(),
-        11 => return association_line(line),
-        _ => return association_failed(),
+        10 => return Call::Reception(ReceptionOutcome::ReceptionFailed),
+        11 => return Call::Association(association_of(line)),
+        _ => return Call::Association(AssociationOutcome::AssociationFailed),
     }
 }
 
@@ -522,11 +382,21 @@ fn frame_of(line: Line) -> ReceivedFrame
     let kind = line.kind;
     match kind {
         13 => return ReceivedFrame::Undecodable,
-        14 => return data_of(line),
-        15 => return rejoin_response_frame(line),
-        16 => return timeout_response_frame(line),
-        17 => return leave_frame(line),
-        18 => return other_command(line),
+        14 => return ReceivedFrame::Data(source_of(line)),
+        15 => return ReceivedFrame::RejoinResponseCommand(
+            source_of(line),
+            rejoin_response_of(line),
+        ),
+        16 => return ReceivedFrame::TimeoutResponseCommand(
+            source_of(line),
+            timeout_response_of(line),
+        ),
+        17 => return ReceivedFrame::LeaveCommand(
+            source_of(line),
+            short_of(line, 3),
+            leave_options_of(line),
+        ),
+        18 => return ReceivedFrame::OtherCommand(source_of(line)),
         _ => return ReceivedFrame::OtherFrame,
     }
 }
@@ -537,9 +407,9 @@ fn call_of_20_to_26(line: Line) -> Call
 {
     let kind = line.kind;
     match kind {
-        20 => return discovery_line(line),
-        21 => return join_line(line),
-        22 => return send_line(line),
+        20 => return Call::Discovery(range_of(line, 1)),
+        21 => return Call::Join(join_request_of(line)),
+        22 => return Call::Send(short_of(line, 1), flag_of(line, 2)),
         23 => return Call::Poll,
         24 => return Call::Receive,
         25 => return Call::Negotiate,
@@ -555,10 +425,10 @@ fn call_of_27_and_more(line: Line) -> Call
     match kind {
         27 => return Call::TakeLeave,
         28 => return Call::TakeStatus,
-        29 => return choose_line(line),
+        29 => return Call::Choose(network_of(line), flag_of(line, 2), flag_of(line, 3)),
         30 => return Call::PrintState,
-        31 => return failure_line(line),
-        _ => return Call::Nonsense,
+        31 => return Call::Failure(failure_of(line)),
+        _ => return Call::Bad,
     }
 }
 
@@ -574,7 +444,7 @@ pub fn call_of(line: Line) -> Call
         return call_of_7_to_12(line);
     }
     if kind < 20 {
-        return received(frame_of(line));
+        return Call::Reception(ReceptionOutcome::Received(frame_of(line)));
     }
     if kind < 27 {
         return call_of_20_to_26(line);

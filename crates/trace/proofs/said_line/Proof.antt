@@ -1,6 +1,6 @@
 -- `said_line` meets its contract. Assumes nothing.
 use mathlib.Core.Path.{_≡_, sym, ap, _∙_}
-use Prim.Native.Nat.{ℕ, _-_}
+use Prim.Native.Nat.{ℕ}
 use native.Mathlib.Omega.{arith}
 use mathlib.Core.List.{[], _∷_}
 use lib.ListN.{getD, length}

@@ -1,6 +1,5 @@
 -- `slot_line` meets its contract. Assumes nothing.
 use mathlib.Core.Path.{_≡_, ap, _∙_}
-use Prim.Native.Nat.{_-_}
 use native.Mathlib.Omega.{arith}
 use Rattle.trace.specs.Lines.{leaveLine, statusLine}
 use Rattle.trace_lines.specs.declared.Line.{Line}

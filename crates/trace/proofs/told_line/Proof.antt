@@ -1,6 +1,5 @@
 -- `told_line` meets its contract. Assumes nothing.
 use mathlib.Core.Path.{sym, _∙_}
-use Prim.Native.Nat.{_-_}
 use native.Mathlib.Omega.{arith}
 use mathlib.Core.List.{[], _∷_, map}
 use lib.ListN.{length-map}

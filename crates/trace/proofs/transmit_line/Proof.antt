@@ -1,8 +1,6 @@
 -- `transmit_line` meets its contract. Assumes nothing.
 use mathlib.Core.Path.{ap, _∙_}
 use mathlib.Core.List.{[], _∷_}
-use Prim.Native.Nat.{_-_}
-use mathlib.Core.List.{List}
 use Rattle.trace.specs.Lines.{commandLine, transmitLine}
 use Rattle.trace.specs.Kind as kind
 use Rattle.trace.specs.Word as word

@@ -1,6 +1,6 @@
 -- `answer` meets its contract. Assumes nothing.
 use mathlib.Core.Path.{_∙_}
-use Rattle.trace_calls.specs.TraceCalls.{answer}
+use Rattle.trace_calls.specs.Steps.{answer}
 use Rattle.trace_calls.proofs.Lines.{answer-other}
 use borrow.Author.Needs.{needs}
 use Rattle.trace_calls.proofs.answer.Statement.{statement}
@@ -126,21 +126,11 @@ returns-12 : tie.Need-returns-12
 unfolding answer
 returns-12 c = rw (c .before .enum-told5 .given .1) (c .take-leave-indication .ensures)
 
-enum-told-6 : tie.Need-enum-told-6
-enum-told-6 c = search needs
-
 take-nwk-status-indication-requires : tie.Need-take-nwk-status-indication-requires
 take-nwk-status-indication-requires c κs = search needs
 
 returns-13 : tie.Need-returns-13
-unfolding answer
-returns-13 c = rw (c .before .enum-told6 .given .1) (c .take-nwk-status-indication .ensures)
-
-no-answer-requires : tie.Need-no-answer-requires
-no-answer-requires c κs = search needs
-
-returns-14 : tie.Need-returns-14
-returns-14 c = c .no-answer .ensures ∙ answer-other (c .before .before .args .call) (c .before .before .args .state) (c .before .match .keys14)
+returns-13 c = c .take-nwk-status-indication .ensures ∙ answer-other (c .before .before .args .call) (c .before .before .args .state) (c .before .match .keys13)
 
 pub answer-spec : {M : Type 1} → statement M
 answer-spec =
@@ -182,8 +172,5 @@ answer-spec =
     enum-told-5
     take-leave-indication-requires
     returns-12
-    enum-told-6
     take-nwk-status-indication-requires
-    returns-13
-    no-answer-requires
-    returns-14)
+    returns-13)

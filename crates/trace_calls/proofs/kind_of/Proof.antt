@@ -34,8 +34,20 @@ enum-told-5 c = search needs
 returns-5 : tie.Need-returns-5
 returns-5 c = rw (c .enum-told5 .given .1)
 
+enum-told-6 : tie.Need-enum-told-6
+enum-told-6 c = search needs
+
 returns-6 : tie.Need-returns-6
-returns-6 c = kind-other (c .before .args .call) (c .match .keys6)
+returns-6 c = rw (c .enum-told6 .given .1)
+
+enum-told-7 : tie.Need-enum-told-7
+enum-told-7 c = search needs
+
+returns-7 : tie.Need-returns-7
+returns-7 c = rw (c .enum-told7 .given .1)
+
+returns-8 : tie.Need-returns-8
+returns-8 c = kind-other (c .before .args .call) (c .match .keys8)
 
 pub kind-of-spec : {M : Type 1} → statement M
 kind-of-spec =
@@ -51,4 +63,8 @@ kind-of-spec =
     returns-4
     enum-told-5
     returns-5
-    returns-6)
+    enum-told-6
+    returns-6
+    enum-told-7
+    returns-7
+    returns-8)

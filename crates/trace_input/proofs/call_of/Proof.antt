@@ -1,5 +1,4 @@
 -- `call_of` meets its contract. Assumes nothing.
-use mathlib.Core.Path.{_∙_}
 use borrow.Author.Needs.{needs}
 use Rattle.trace_input.proofs.call_of.Statement.{statement}
 use Rattle.trace_input.proofs.call_of.Tie as tie
@@ -19,11 +18,8 @@ returns-2 c = search needs
 frame-of-requires : tie.Need-frame-of-requires
 frame-of-requires c κs = search needs
 
-received-requires : tie.Need-received-requires
-received-requires c κs = search needs
-
 returns-3 : tie.Need-returns-3
-returns-3 c = c .received .ensures ∙ c .before .frame-of .ensures
+returns-3 c = c .frame-of .ensures
 
 call-of-20-to-26-requires : tie.Need-call-of-20-to-26-requires
 call-of-20-to-26-requires c κs = search needs
@@ -46,7 +42,6 @@ call-of-spec =
     call-of-7-to-12-requires
     returns-2
     frame-of-requires
-    received-requires
     returns-3
     call-of-20-to-26-requires
     returns-4

@@ -7,26 +7,29 @@ use borrow.Author.Needs.{needs}
 use Rattle.trace_input.proofs.call_of_20_to_26.Statement.{statement}
 use Rattle.trace_input.proofs.call_of_20_to_26.Tie as tie
 
-discovery-line-requires : tie.Need-discovery-line-requires
-discovery-line-requires c κs = search needs
+range-of-requires : tie.Need-range-of-requires
+range-of-requires c κs = search needs
 
 returns : tie.Need-returns
 unfolding calls
-returns c = of-kind 20 (c .before .before .args .line) (c .before .match .keys1) (c .discovery-line .ensures)
+returns c = of-kind 20 (c .before .before .args .line) (c .before .match .keys1) (rw (c .range-of .ensures))
 
-join-line-requires : tie.Need-join-line-requires
-join-line-requires c κs = search needs
+join-request-of-requires : tie.Need-join-request-of-requires
+join-request-of-requires c κs = search needs
 
 returns-2 : tie.Need-returns-2
 unfolding calls
-returns-2 c = of-kind 21 (c .before .before .args .line) (c .before .match .keys2) (c .join-line .ensures)
+returns-2 c = of-kind 21 (c .before .before .args .line) (c .before .match .keys2) (rw (c .join-request-of .ensures))
 
-send-line-requires : tie.Need-send-line-requires
-send-line-requires c κs = search needs
+short-of-requires : tie.Need-short-of-requires
+short-of-requires c κs = search needs
+
+flag-of-requires : tie.Need-flag-of-requires
+flag-of-requires c κs = search needs
 
 returns-3 : tie.Need-returns-3
 unfolding calls
-returns-3 c = of-kind 22 (c .before .before .args .line) (c .before .match .keys3) (c .send-line .ensures)
+returns-3 c = of-kind 22 (c .before .before .before .args .line) (c .before .before .match .keys3) (rw (c .flag-of .ensures, c .before .short-of .ensures))
 
 returns-4 : tie.Need-returns-4
 unfolding calls
@@ -51,11 +54,12 @@ pub call-of-20-to-26-spec : {M : Type 1} → statement M
 call-of-20-to-26-spec =
     tie.close
     (tie.spec
-    discovery-line-requires
+    range-of-requires
     returns
-    join-line-requires
+    join-request-of-requires
     returns-2
-    send-line-requires
+    short-of-requires
+    flag-of-requires
     returns-3
     returns-4
     returns-5

@@ -15,23 +15,29 @@ returns-2 : tie.Need-returns-2
 unfolding calls
 returns-2 c = of-kind 28 (c .before .args .line) (c .match .keys2) refl
 
-choose-line-requires : tie.Need-choose-line-requires
-choose-line-requires c κs = search needs
+network-of-requires : tie.Need-network-of-requires
+network-of-requires c κs = search needs
+
+flag-of-requires : tie.Need-flag-of-requires
+flag-of-requires c κs = search needs
+
+flag-of-requires-2 : tie.Need-flag-of-requires-2
+flag-of-requires-2 c κs = search needs
 
 returns-3 : tie.Need-returns-3
 unfolding calls
-returns-3 c = of-kind 29 (c .before .before .args .line) (c .before .match .keys3) (c .choose-line .ensures)
+returns-3 c = of-kind 29 (c .before .before .before .before .args .line) (c .before .before .before .match .keys3) (rw (c .flag-of2 .ensures, c .before .flag-of .ensures, c .before .before .network-of .ensures))
 
 returns-4 : tie.Need-returns-4
 unfolding calls
 returns-4 c = of-kind 30 (c .before .args .line) (c .match .keys4) refl
 
-failure-line-requires : tie.Need-failure-line-requires
-failure-line-requires c κs = search needs
+failure-of-requires : tie.Need-failure-of-requires
+failure-of-requires c κs = search needs
 
 returns-5 : tie.Need-returns-5
 unfolding calls
-returns-5 c = of-kind 31 (c .before .before .args .line) (c .before .match .keys5) (c .failure-line .ensures)
+returns-5 c = of-kind 31 (c .before .before .args .line) (c .before .match .keys5) (rw (c .failure-of .ensures))
 
 returns-6 : tie.Need-returns-6
 unfolding calls
@@ -43,9 +49,11 @@ call-of-27-and-more-spec =
     (tie.spec
     returns
     returns-2
-    choose-line-requires
+    network-of-requires
+    flag-of-requires
+    flag-of-requires-2
     returns-3
     returns-4
-    failure-line-requires
+    failure-of-requires
     returns-5
     returns-6)

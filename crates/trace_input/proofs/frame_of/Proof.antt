@@ -1,9 +1,6 @@
 -- `frame_of` meets its contract. Assumes nothing.
-use mathlib.Core.Path.{_≡_, refl, ap}
+use mathlib.Core.Path.{_≡_, refl}
 use native.Mathlib.Omega.{arith}
-use Rattle.frame.specs.declared.ReceivedFrame.{ReceivedFrame}
-use Rattle.node.specs.declared.ReceptionOutcome.the-variants.{Received}
-use Rattle.trace_input.specs.declared.Call.the-variants.{Reception}
 use Rattle.trace_input.specs.TraceInput.{calls}
 use Rattle.trace_input.proofs.LineKinds.{of-kind}
 use borrow.Author.Needs.{needs}
@@ -14,40 +11,52 @@ returns : tie.Need-returns
 unfolding calls
 returns c = of-kind 13 (c .before .args .line) (c .match .keys1) refl
 
-data-of-requires : tie.Need-data-of-requires
-data-of-requires c κs = search needs
+source-of-requires : tie.Need-source-of-requires
+source-of-requires c κs = search needs
 
 returns-2 : tie.Need-returns-2
 unfolding calls
-returns-2 c = of-kind 14 (c .before .before .args .line) (c .before .match .keys2) (ap (λ (f : ReceivedFrame). Reception (Received f)) (c .data-of .ensures))
+returns-2 c = of-kind 14 (c .before .before .args .line) (c .before .match .keys2) (rw (c .source-of .ensures))
 
-rejoin-response-frame-requires : tie.Need-rejoin-response-frame-requires
-rejoin-response-frame-requires c κs = search needs
+source-of-requires-2 : tie.Need-source-of-requires-2
+source-of-requires-2 c κs = search needs
+
+rejoin-response-of-requires : tie.Need-rejoin-response-of-requires
+rejoin-response-of-requires c κs = search needs
 
 returns-3 : tie.Need-returns-3
 unfolding calls
-returns-3 c = of-kind 15 (c .before .before .args .line) (c .before .match .keys3) (ap (λ (f : ReceivedFrame). Reception (Received f)) (c .rejoin-response-frame .ensures))
+returns-3 c = of-kind 15 (c .before .before .before .args .line) (c .before .before .match .keys3) (rw (c .rejoin-response-of .ensures, c .before .source-of2 .ensures))
 
-timeout-response-frame-requires : tie.Need-timeout-response-frame-requires
-timeout-response-frame-requires c κs = search needs
+source-of-requires-3 : tie.Need-source-of-requires-3
+source-of-requires-3 c κs = search needs
+
+timeout-response-of-requires : tie.Need-timeout-response-of-requires
+timeout-response-of-requires c κs = search needs
 
 returns-4 : tie.Need-returns-4
 unfolding calls
-returns-4 c = of-kind 16 (c .before .before .args .line) (c .before .match .keys4) (ap (λ (f : ReceivedFrame). Reception (Received f)) (c .timeout-response-frame .ensures))
+returns-4 c = of-kind 16 (c .before .before .before .args .line) (c .before .before .match .keys4) (rw (c .timeout-response-of .ensures, c .before .source-of3 .ensures))
 
-leave-frame-requires : tie.Need-leave-frame-requires
-leave-frame-requires c κs = search needs
+source-of-requires-4 : tie.Need-source-of-requires-4
+source-of-requires-4 c κs = search needs
+
+short-of-requires : tie.Need-short-of-requires
+short-of-requires c κs = search needs
+
+leave-options-of-requires : tie.Need-leave-options-of-requires
+leave-options-of-requires c κs = search needs
 
 returns-5 : tie.Need-returns-5
 unfolding calls
-returns-5 c = of-kind 17 (c .before .before .args .line) (c .before .match .keys5) (ap (λ (f : ReceivedFrame). Reception (Received f)) (c .leave-frame .ensures))
+returns-5 c = of-kind 17 (c .before .before .before .before .args .line) (c .before .before .before .match .keys5) (rw (c .leave-options-of .ensures, c .before .short-of .ensures, c .before .before .source-of4 .ensures))
 
-other-command-requires : tie.Need-other-command-requires
-other-command-requires c κs = search needs
+source-of-requires-5 : tie.Need-source-of-requires-5
+source-of-requires-5 c κs = search needs
 
 returns-6 : tie.Need-returns-6
 unfolding calls
-returns-6 c = of-kind 18 (c .before .before .args .line) (c .before .match .keys6) (ap (λ (f : ReceivedFrame). Reception (Received f)) (c .other-command .ensures))
+returns-6 c = of-kind 18 (c .before .before .args .line) (c .before .match .keys6) (rw (c .source-of5 .ensures))
 
 returns-7 : tie.Need-returns-7
 unfolding calls
@@ -61,14 +70,18 @@ frame-of-spec =
     tie.close
     (tie.spec
     returns
-    data-of-requires
+    source-of-requires
     returns-2
-    rejoin-response-frame-requires
+    source-of-requires-2
+    rejoin-response-of-requires
     returns-3
-    timeout-response-frame-requires
+    source-of-requires-3
+    timeout-response-of-requires
     returns-4
-    leave-frame-requires
+    source-of-requires-4
+    short-of-requires
+    leave-options-of-requires
     returns-5
-    other-command-requires
+    source-of-requires-5
     returns-6
     returns-7)

@@ -9,32 +9,23 @@ array-read-rejoin-network-of c = search needs
 rejoin-network-of-requires : tie.Need-rejoin-network-of-requires
 rejoin-network-of-requires c κs = search needs
 
-array-read-range-from : tie.Need-array-read-range-from
-array-read-range-from c = search needs
-
-array-read-range-from-2 : tie.Need-array-read-range-from-2
-array-read-range-from-2 c = search needs
-
-array-read-range-from-3 : tie.Need-array-read-range-from-3
-array-read-range-from-3 c = search needs
-
-range-from-requires : tie.Need-range-from-requires
-range-from-requires c κs = search needs
+range-of-requires : tie.Need-range-of-requires
+range-of-requires c κs = search needs
 
 array-read-t7 : tie.Need-array-read-t7
 array-read-t7 c = search needs
 
-array-read-t15 : tie.Need-array-read-t15
-array-read-t15 c = search needs
+array-read-t13 : tie.Need-array-read-t13
+array-read-t13 c = search needs
 
-cast-t21 : tie.Need-cast-t21
-cast-t21 c = search needs
+cast-t15 : tie.Need-cast-t15
+cast-t15 c = search needs
 
-array-read-t25 : tie.Need-array-read-t25
-array-read-t25 c = search needs
+array-read-t19 : tie.Need-array-read-t19
+array-read-t19 c = search needs
 
 returns : tie.Need-returns
-returns c = rw (c .range-from .ensures, c .before .rejoin-network-of .ensures)
+returns c = rw (c .range-of .ensures, c .before .rejoin-network-of .ensures)
 
 pub join-request-of-spec : {M : Type 1} → statement M
 join-request-of-spec =
@@ -42,12 +33,9 @@ join-request-of-spec =
     (tie.spec
     array-read-rejoin-network-of
     rejoin-network-of-requires
-    array-read-range-from
-    array-read-range-from-2
-    array-read-range-from-3
-    range-from-requires
+    range-of-requires
     array-read-t7
-    array-read-t15
-    cast-t21
-    array-read-t25
+    array-read-t13
+    cast-t15
+    array-read-t19
     returns)
