@@ -1,7 +1,7 @@
 -- What the code of a call carries out is what its definition says, by what is awaited. Assumes nothing.
 use Prim.Native.Nat.{ℕ}
 use mathlib.Core.Path.{_≡_, refl, sym, ap, _∙_}
-use mathlib.Core.Bool.{Bool, true, false, cond, false≢true}
+use mathlib.Core.Bool.{Bool, true, false, cond, not, _&&_, false≢true}
 use mathlib.Core.List.{List, [], map}
 use lib.Dec.{eqb}
 use lib.ListN.{take}
@@ -115,7 +115,7 @@ abbrev refusalIn : Phase → Bool → Bool → Bool → Bool → ℕ
 refusalIn p b f l n = cond b 5 (cond (awaitsScan p) (cond f 0 (cond l 3 (cond n 4 0))) 2)
 
 pub scan-is : (p : Phase) (b f l n : Bool) (ds : List PanDescriptor) (s : State)
-    → record { answer = cond (eqb (refusalIn p b f l n) 0) (deciding (afterIn p f ds s) (scanOverIn p f (next (afterIn p f ds s)) (s .control))) (refuse (refusalIn p b f l n) s); confirm = cond (eqb (refusalIn p b f l n) 0) (cond f (confirmOf []) (cond (isDiscovery p) (confirmOf (map networkDescriptor ds)) (confirmOf []))) (confirmOf []) }
+    → record { answer = cond (eqb (refusalIn p b f l n) 0) (deciding (afterIn p f ds s) (scanOverIn p f (next (afterIn p f ds s)) (s .control))) (refuse (refusalIn p b f l n) s); confirm = cond (eqb (refusalIn p b f l n) 0 && not f && isDiscovery p) (confirmOf (map networkDescriptor ds)) (confirmOf []) }
     ≡ cond b (noConfirm (refuse 5 s)) (cond (awaitsScan p) (cond f (noConfirm (scanFailed p s)) (cond l (noConfirm (refuse 3 s)) (cond n (noConfirm (refuse 4 s)) (scanFound p ds s)))) (noConfirm (refuse 2 s)))
 unfolding scanOverIn scanFailed scanFound discovered rejoinHeard heard chosen
 scan-is p true f l n ds s = refl
