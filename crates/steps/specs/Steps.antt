@@ -1,5 +1,5 @@
--- What a call decides by what is awaited, and what a decision writes to the table and the candidates (01, "Join request and confirm", "Received frame", "When a call
--- is turned down").
+-- What a call decides by what is awaited, and what a decision writes to the table and the candidates (01, "Join request and confirm", "Received frame",
+-- "Supervision record", "When a call is turned down").
 use Prim.Native.Nat.{ℕ}
 use mathlib.Core.Bool.{Bool, true, false, cond, not}
 use lib.Dec.{eqb}
@@ -7,7 +7,7 @@ use lib.ListN.{length}
 use Rattle.nib.specs.Neighbors.{entriesOf}
 use Rattle.nib.specs.declared.Neighbor.{Neighbor}
 use Rattle.neighbor_table.specs.NeighborTable.{onEntries}
-use Rattle.tries.specs.Tries.{parentIn, nextIn, taking, adoptedNext, joinedTried, barredTried}
+use Rattle.tries.specs.Tries.{taking, adoptedNext, joinedTried, barredTried}
 use Rattle.management.specs.Signals.{withLeaveIndication, withStatusIndication}
 use Rattle.management.specs.declared.RejoinNetwork.{RejoinNetwork}
 use Rattle.management.specs.declared.RejoinNetwork.the-variants.{Association, Orphan, NwkRejoin, ChannelChange}
@@ -23,8 +23,7 @@ use Rattle.nlme.specs.declared.NlmeTicked.{NlmeTicked}
 use Rattle.received.specs.Received.{leaveAnnounced}
 use Rattle.received.specs.declared.Then.{Then}
 use Rattle.received.specs.declared.Then.the-variants.{Over, Announce}
-use Rattle.received.specs.declared.Handled.{Handled}
-use Rattle.operation.specs.Operation.{withNlme, asking, ending}
+use Rattle.operation.specs.Operation.{withNlme, decided, asking, ending}
 use Rattle.operation.specs.declared.Purpose.{Purpose}
 use Rattle.operation.specs.declared.Purpose.the-variants.{RejoinResponse, SinglePoll, SingleReceive, TimeoutResponse}
 use Rattle.operation.specs.declared.Phase.{Phase}
@@ -71,15 +70,7 @@ writes false JoinTried = true
 
 -- an answer that leaves the operation under way as it is
 abbrev pub telling : Step → Control → Decision
-telling s c =
-    record {
-      control = c;
-      «clear_potential_parent» = false;
-      candidate = Stay;
-      note = NoNote;
-      step = s;
-      «polls_used» = 0;
-    }
+telling s c = decided Stay NoNote s c
 
 -- 2: no request awaits that kind
 abbrev pub unawaited : Control → Decision

@@ -2,13 +2,12 @@
 ghost use mathlib.Core.Path.{_≡_};
 ghost use Rattle.operation.specs.Operation.{withNlme};
 ghost use Rattle.nlme.specs.Fields.{withSignals};
-ghost use Rattle.steps.specs.Steps.{withNextTaken, moving, barring, writes, telling, unawaited, ticked, leaveTaken, statusTaken};
+ghost use Rattle.steps.specs.Steps.{withNextTaken, moving, barring, writes, unawaited, ticked, leaveTaken, statusTaken};
 use management::LeaveIndicationSlot;
 use management::Signals;
 use management::StatusIndicationSlot;
 use nib::Neighbor;
 use nib::NeighborTable;
-use nlme::Nlme;
 use operation::Control;
 use operation::Decision;
 use operation::Move;
@@ -31,42 +30,34 @@ fn take_next(tables: Tables) -> Tables
     Tables { table, candidates }
 }
 
-fn with_table(tables: Tables, table: NeighborTable) -> Tables
-    ensures { λ r. ⌜ r ≡ record { table = table; candidates = tables .candidates } ⌝ }
-{
-    let candidates = tables.candidates;
-    Tables { table, candidates }
-}
-
 fn moved(tables: Tables, candidate: Move) -> Tables
     ensures { λ r. ⌜ r ≡ moving candidate tables ⌝ }
 {
     match candidate {
-        Move::Stay => tables,
-        Move::TakeNext => take_next(tables),
+        Move::Stay => return tables,
+        Move::TakeNext => return take_next(tables),
         Move::AdoptNext => {
             let table = tries::adopt_next(tables.table, tables.candidates);
-            take_next(with_table(tables, table))
+            let candidates = tables.candidates;
+            return take_next(Tables { table, candidates });
         }
         Move::JoinTried => {
-            with_table(tables, tries::join_tried(tables.table, tables.candidates))
+            let table = tries::join_tried(tables.table, tables.candidates);
+            let candidates = tables.candidates;
+            return Tables { table, candidates };
         }
     }
-}
-
-fn barred(tables: Tables, clear: bool) -> Tables
-    ensures { λ r. ⌜ r ≡ barring clear tables ⌝ }
-{
-    if clear {
-        return with_table(tables, tries::bar_tried(tables.table, tables.candidates));
-    }
-    tables
 }
 
 pub fn written(tables: Tables, clear: bool, candidate: Move) -> Tables
     ensures { λ r. ⌜ r ≡ moving candidate (barring clear tables) ⌝ }
 {
-    moved(barred(tables, clear), candidate)
+    if clear {
+        let table = tries::bar_tried(tables.table, tables.candidates);
+        let candidates = tables.candidates;
+        return moved(Tables { table, candidates }, candidate);
+    }
+    moved(tables, candidate)
 }
 
 // Whether a decision writes anything to the table or the candidates.
@@ -77,18 +68,11 @@ pub fn writes(clear: bool, candidate: Move) -> bool
         return true;
     }
     match candidate {
-        Move::Stay => false,
-        Move::TakeNext => true,
-        Move::AdoptNext => true,
-        Move::JoinTried => true,
+        Move::Stay => return false,
+        Move::TakeNext => return true,
+        Move::AdoptNext => return true,
+        Move::JoinTried => return true,
     }
-}
-
-fn with_nlme(control: Control, nlme: Nlme) -> Control
-    ensures { λ r. ⌜ r ≡ withNlme nlme control ⌝ }
-{
-    let operation = control.operation;
-    Control { nlme, operation }
 }
 
 fn with_signals(control: Control, signals: Signals) -> Control
@@ -96,38 +80,28 @@ fn with_signals(control: Control, signals: Signals) -> Control
 {
     let mut nlme = control.nlme;
     nlme.signals = signals;
-    with_nlme(control, nlme)
-}
-
-// An answer that leaves the operation under way as it is.
-fn telling(step: Step, control: Control) -> Decision
-    ensures { λ r. ⌜ r ≡ telling step control ⌝ }
-{
-    Decision {
-        control,
-        clear_potential_parent: false,
-        candidate: Move::Stay,
-        note: Note::NoNote,
-        step,
-        polls_used: 0,
-    }
+    operation::with_nlme(control, nlme)
 }
 
 // An outcome that nothing awaits.
 pub fn unawaited(control: Control) -> Decision
     ensures { λ r. ⌜ r ≡ unawaited control ⌝ }
 {
-    telling(Step::Refused(2), control)
+    operation::decided(Move::Stay, Note::NoNote, Step::Refused(2), control)
 }
 
 // The tick of the parent's timer.
 pub fn ticked(elapsed_ms: u32, parent: Neighbor, control: Control) -> Decision
     ensures { λ r. ⌜ r ≡ ticked «elapsed_ms» parent control ⌝ }
 {
-    let nlme = control.nlme;
-    let ticked = nlme.tick_parent_timeout(parent, elapsed_ms);
-    let next = with_nlme(control, ticked.nlme);
-    telling(Step::Expired(ticked.expired), next)
+    let ticked = control.nlme.tick_parent_timeout(parent, elapsed_ms);
+    let next = operation::with_nlme(control, ticked.nlme);
+    operation::decided(
+        Move::Stay,
+        Note::NoNote,
+        Step::Expired(ticked.expired),
+        next,
+    )
 }
 
 // The leave indication is taken.
@@ -137,7 +111,8 @@ pub fn leave_taken(control: Control) -> Decision
     let signals = control.nlme.signals;
     let slot = signals.leave_indication;
     let taken = signals.with_leave_indication(LeaveIndicationSlot::NoLeaveIndication);
-    telling(Step::LeaveTaken(slot), with_signals(control, taken))
+    let next = with_signals(control, taken);
+    operation::decided(Move::Stay, Note::NoNote, Step::LeaveTaken(slot), next)
 }
 
 // The status indication is taken.
@@ -147,5 +122,6 @@ pub fn status_taken(control: Control) -> Decision
     let signals = control.nlme.signals;
     let slot = signals.nwk_status_indication;
     let taken = signals.with_status_indication(StatusIndicationSlot::NoStatusIndication);
-    telling(Step::StatusTaken(slot), with_signals(control, taken))
+    let next = with_signals(control, taken);
+    operation::decided(Move::Stay, Note::NoNote, Step::StatusTaken(slot), next)
 }

@@ -9,13 +9,13 @@ with-leave-indication-requires c κs = search needs
 with-signals-requires : tie.Need-with-signals-requires
 with-signals-requires c κs = search needs
 
-telling-requires : tie.Need-telling-requires
-telling-requires c κs = search needs
+decided-requires : tie.Need-decided-requires
+decided-requires c κs = search needs
 
 returns : tie.Need-returns
-returns c = rw (c .telling .ensures, c .before .with-signals .ensures, c .before .before .with-leave-indication .ensures)
+returns c = rw (c .decided .ensures, c .before .with-signals .ensures, c .before .before .with-leave-indication .ensures)
 
 pub leave-taken-spec : {M : Type 1} → statement M
 leave-taken-spec =
     tie.close
-    (tie.spec with-leave-indication-requires with-signals-requires telling-requires returns)
+    (tie.spec with-leave-indication-requires with-signals-requires decided-requires returns)

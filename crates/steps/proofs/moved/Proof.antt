@@ -7,11 +7,19 @@ use Rattle.steps.proofs.moved.Tie as tie
 enum-told : tie.Need-enum-told
 enum-told c = search needs
 
+returns : tie.Need-returns
+unfolding moving
+returns c = rw (c .enum-told .given .1)
+
 enum-told-2 : tie.Need-enum-told-2
 enum-told-2 c = search needs
 
 take-next-requires : tie.Need-take-next-requires
 take-next-requires c κs = search needs
+
+returns-2 : tie.Need-returns-2
+unfolding moving
+returns-2 c = rw (c .before .enum-told2 .given .1, c .take-next .ensures)
 
 enum-told-3 : tie.Need-enum-told-3
 enum-told-3 c = search needs
@@ -19,11 +27,12 @@ enum-told-3 c = search needs
 adopt-next-requires : tie.Need-adopt-next-requires
 adopt-next-requires c κs = search needs
 
-with-table-requires : tie.Need-with-table-requires
-with-table-requires c κs = search needs
-
 take-next-requires-2 : tie.Need-take-next-requires-2
 take-next-requires-2 c κs = search needs
+
+returns-3 : tie.Need-returns-3
+unfolding moving
+returns-3 c = rw (c .before .before .before .enum-told3 .given .1, c .take-next2 .ensures, c .before .before .adopt-next .ensures)
 
 enum-told-4 : tie.Need-enum-told-4
 enum-told-4 c = search needs
@@ -31,40 +40,23 @@ enum-told-4 c = search needs
 join-tried-requires : tie.Need-join-tried-requires
 join-tried-requires c κs = search needs
 
-with-table-requires-2 : tie.Need-with-table-requires-2
-with-table-requires-2 c κs = search needs
-
-returns : tie.Need-returns
-unfolding moving
-returns c = rw (c .enum-told .given .1)
-
-returns-2 : tie.Need-returns-2
-unfolding moving
-returns-2 c = rw (c .before .enum-told2 .given .1, c .take-next .ensures)
-
-returns-3 : tie.Need-returns-3
-unfolding moving
-returns-3 c = rw (c .before .before .before .enum-told3 .given .1, c .take-next2 .ensures, c .before .with-table .ensures, c .before .before .adopt-next .ensures)
-
 returns-4 : tie.Need-returns-4
 unfolding moving
-returns-4 c = rw (c .before .before .enum-told4 .given .1, c .with-table2 .ensures, c .before .join-tried .ensures)
+returns-4 c = rw (c .before .before .enum-told4 .given .1, c .before .join-tried .ensures)
 
 pub moved-spec : {M : Type 1} → statement M
 moved-spec =
     tie.close
     (tie.spec
     enum-told
+    returns
     enum-told-2
     take-next-requires
+    returns-2
     enum-told-3
     adopt-next-requires
-    with-table-requires
     take-next-requires-2
+    returns-3
     enum-told-4
     join-tried-requires
-    with-table-requires-2
-    returns
-    returns-2
-    returns-3
     returns-4)

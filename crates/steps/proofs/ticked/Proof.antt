@@ -9,11 +9,11 @@ tick-parent-timeout-requires c κs = search needs
 with-nlme-requires : tie.Need-with-nlme-requires
 with-nlme-requires c κs = search needs
 
-telling-requires : tie.Need-telling-requires
-telling-requires c κs = search needs
+decided-requires : tie.Need-decided-requires
+decided-requires c κs = search needs
 
 returns : tie.Need-returns
-returns c = rw (c .telling .ensures, c .before .with-nlme .ensures, c .before .before .tick-parent-timeout .ensures)
+returns c = rw (c .decided .ensures, c .before .with-nlme .ensures, c .before .before .tick-parent-timeout .ensures)
 
 pub ticked-spec : {M : Type 1} → statement M
 ticked-spec =
@@ -21,5 +21,5 @@ ticked-spec =
     (tie.spec
     tick-parent-timeout-requires
     with-nlme-requires
-    telling-requires
+    decided-requires
     returns)
