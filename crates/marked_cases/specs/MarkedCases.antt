@@ -5,6 +5,7 @@ use mathlib.Core.Bool.{Bool, true, false, cond}
 use mathlib.Core.List.{List, [], _∷_, map}
 use Rattle.lists.specs.Lists.{All}
 use Rattle.nib.specs.Identifiers.{linkCost}
+use Rattle.nib.specs.Neighbors.{NONE}
 use Rattle.nib.specs.declared.Nib.{Nib}
 use Rattle.nib.specs.declared.NwkNeighbor.{NwkNeighbor}
 use Rattle.nib.specs.declared.DeviceType.the-variants.{Router}
@@ -17,7 +18,7 @@ use Rattle.parent_timer.specs.declared.Ticked.{Ticked}
 use Rattle.supervision.specs.Timeouts.{refreshed}
 use Rattle.received.specs.Received.{acceptsLeave}
 
--- an entry by the fields that the choice reads: extended PAN id, depth, permit, router and end device capacity, LQI, update id
+-- an entry by the fields that the choice reads: extended PAN id, depth, permit, router and end device capacity, LQI, update id; potential parent is 1
 abbrev pub entry : ℕ → ℕ → Bool → Bool → Bool → ℕ → ℕ → NwkNeighbor
 entry n depth permit router device lqi id =
     record {
@@ -26,7 +27,7 @@ entry n depth permit router device lqi id =
       «device_type» = Router;
       «rx_on_when_idle» = true;
       «end_device_configuration» = 0;
-      relationship = 3;
+      relationship = NONE;
       lqi = lqi;
       «outgoing_cost» = 0;
       age = 0;
@@ -61,12 +62,12 @@ pub data Question : Type 0 where
   -- whether a leave request is accepted: own address, destination, router, nwkLeaveRequestAllowed, and whether the parent asks
   leaveOf : ℕ → ℕ → Bool → Bool → Bool → Question
 
-abbrev pub found : Newest → List ℕ
-found Nothing = []
-found (Id id) = id ∷ []
+abbrev pub idsOf : Newest → List ℕ
+idsOf Nothing = []
+idsOf (Id id) = id ∷ []
 
-abbrev pub left : Ticked → List ℕ
-left t = t .timer .«remaining_ms» ∷ cond (t .expired) 1 0 ∷ []
+abbrev pub tickNumbers : Ticked → List ℕ
+tickNumbers t = t .timer .«remaining_ms» ∷ cond (t .expired) 1 0 ∷ []
 
 -- a node's attributes, by those that a leave request reads
 abbrev pub nodeAt : ℕ → Bool → Bool → Nib
@@ -87,11 +88,11 @@ nodeAt address router allowed =
 
 -- what the definitions answer
 abbrev pub answer : Question → List ℕ
-answer (newestOf ids) = found (newest true 1 (map heard ids))
+answer (newestOf ids) = idsOf (newest true 1 (map heard ids))
 answer (costOf lqi) = linkCost lqi ∷ []
 answer (candidatesOfNone profile router permit n) = candidates profile router permit n []
 answer (timerOf index) = refreshed index .«remaining_ms» ∷ []
-answer (tickOf ms elapsed) = left (ticked (record { «remaining_ms» = ms }) elapsed)
+answer (tickOf ms elapsed) = tickNumbers (ticked (record { «remaining_ms» = ms }) elapsed)
 answer (leaveOf address destination router allowed byParent) =
     cond (acceptsLeave (nodeAt address router allowed) (record { 0 = destination }) byParent) 1 0 ∷ []
 

@@ -33,22 +33,22 @@ not-not true = refl
 not-not false = refl
 
 -- a loop that reads digits: what the next one at i does
-module _ (base max v : ℕ) (f : List ℕ) (i : ℕ) (h : i < length f) where
-  pub number-on : digitOf (getD f i 0) < base → numberFrom base max v (drop i f) ≡ numberFrom base max (v * base + digitOf (getD f i 0)) (drop (i + 1) f)
+module _ (base limit v : ℕ) (f : List ℕ) (i : ℕ) (h : i < length f) where
+  pub number-on : digitOf (getD f i 0) < base → numberFrom base limit v (drop i f) ≡ numberFrom base limit (v * base + digitOf (getD f i 0)) (drop (i + 1) f)
   unfolding numberFrom
   number-on l = rw (add-one, drop-cons f i 0 h, lt-ltb (digitOf (getD f i 0)) base l)
 
-  pub number-stops : base ≤ digitOf (getD f i 0) → numberFrom base max v (drop i f) ≡ NoNumber
+  pub number-stops : base ≤ digitOf (getD f i 0) → numberFrom base limit v (drop i f) ≡ NoNumber
   unfolding numberFrom
   number-stops l = rw (drop-cons f i 0 h, le-ltb (digitOf (getD f i 0)) base l)
 
-  pub number-large : 0 < base → max < v * base + digitOf (getD f i 0) → numberFrom base max v (drop i f) ≡ NoNumber
+  pub number-large : 0 < base → limit < v * base + digitOf (getD f i 0) → numberFrom base limit v (drop i f) ≡ NoNumber
   unfolding numberFrom
   number-large p l =
       let x = getD f i 0 in
       let r = drop (suc i) f in
-      let g : max < valueFrom base v (x ∷ r) = lt-of-lt-of-le l (value-grows base p (v * base + digitOf x) r) in
-      rw (drop-cons f i 0 h, lt-leb (valueFrom base v (x ∷ r)) max g) (none-past (every (λ b. ltb (digitOf b) base) (x ∷ r)) _ _)
+      let g : limit < valueFrom base v (x ∷ r) = lt-of-lt-of-le l (value-grows base p (v * base + digitOf x) r) in
+      rw (drop-cons f i 0 h, lt-leb (valueFrom base v (x ∷ r)) limit g) (none-past (every (λ b. ltb (digitOf b) base) (x ∷ r)) _ _)
 
 -- a loop that writes digits from the last: one digit more before those that stand from at + 1 on
 pub digits-next : (at left : ℕ) (bytes : List ℕ) → 10 ≤ left → left < 10 ^ suc at → at < length bytes → decimalDigits (suc at) left ++ drop (suc at) bytes ≡ decimalDigits (suc (at - 1)) (left / 10) ++ drop (suc (at - 1)) (set bytes at (digitByte (left % 10)))
@@ -136,12 +136,12 @@ hex-below k f = go (eqb (length f) k) refl (every (λ b. ltb (digitOf b) 16) f) 
     go true p true q false = some
     go true p true q true = subst (λ (n : ℕ). valueFrom 16 0 f < 16 ^ n) (eqb-true (length f) k p) (subst (λ (n : ℕ). valueFrom 16 0 f < n) (one-mul (16 ^ length f)) (value-below 16 0 f q))
 
-pub decimal-most : (max : ℕ) (f : List ℕ) → orZero (decimalOf max f) ≤ max
+pub decimal-most : (limit : ℕ) (f : List ℕ) → orZero (decimalOf limit f) ≤ limit
 unfolding decimalOf numberFrom
-decimal-most max f = go (ltb 0 (length f) && (leb (length f) 1 || not (eqb (getD f 0 0) 48))) (every (λ b. ltb (digitOf b) 10) f) (leb (valueFrom 10 0 f) max) refl
+decimal-most limit f = go (ltb 0 (length f) && (leb (length f) 1 || not (eqb (getD f 0 0) 48))) (every (λ b. ltb (digitOf b) 10) f) (leb (valueFrom 10 0 f) limit) refl
   where
-    go : (b e l : Bool) → leb (valueFrom 10 0 f) max ≡ l → orZero (cond b (cond (e && l) (Number (valueFrom 10 0 f)) NoNumber) NoNumber) ≤ max
+    go : (b e l : Bool) → leb (valueFrom 10 0 f) limit ≡ l → orZero (cond b (cond (e && l) (Number (valueFrom 10 0 f)) NoNumber) NoNumber) ≤ limit
     go false e l p = zero-le
     go true false l p = zero-le
     go true true false p = zero-le
-    go true true true p = leb-true (valueFrom 10 0 f) max p
+    go true true true p = leb-true (valueFrom 10 0 f) limit p

@@ -49,12 +49,12 @@ digit-some b n = go (leb 48 b) refl (leb b 57) (leb 97 b) refl (leb b 102)
     go false e q true g false = omega arith
     go false e q false g s = omega arith
 
-pub decimal-size : (j max : ℕ) (f : List ℕ) → max < 10 ^ suc j → isNumber (decimalOf max f) ≡ true → length f ≤ suc j
+pub decimal-size : (j limit : ℕ) (f : List ℕ) → limit < 10 ^ suc j → isNumber (decimalOf limit f) ≡ true → length f ≤ suc j
 unfolding decimalOf numberFrom
-decimal-size j max [] h t = zero-le
-decimal-size j max (b ∷ []) h t = omega arith
-decimal-size j max (b ∷ c ∷ bs) h t =
-    go (ltb 0 (length (b ∷ c ∷ bs))) (leb (length (b ∷ c ∷ bs)) 1) refl (eqb b 48) refl (every (λ x. ltb (digitOf x) 10) (b ∷ c ∷ bs)) (leb (valueFrom 10 0 (b ∷ c ∷ bs)) max) refl t
+decimal-size j limit [] h t = zero-le
+decimal-size j limit (b ∷ []) h t = omega arith
+decimal-size j limit (b ∷ c ∷ bs) h t =
+    go (ltb 0 (length (b ∷ c ∷ bs))) (leb (length (b ∷ c ∷ bs)) 1) refl (eqb b 48) refl (every (λ x. ltb (digitOf x) 10) (b ∷ c ∷ bs)) (leb (valueFrom 10 0 (b ∷ c ∷ bs)) limit) refl t
   where
     n : ℕ
     n = suc (length bs)
@@ -64,18 +64,18 @@ decimal-size j max (b ∷ c ∷ bs) h t =
         let d : 1 ≤ 0 * 10 + digitOf b = omega (arith, digit-some b (eqb-false b 48 e)) in
         le-trans (subst (λ (x : ℕ). x ≤ (0 * 10 + digitOf b) * 10 ^ n) (one-mul (10 ^ n)) (mul-le-mul-right (10 ^ n) d)) (value-least 10 (0 * 10 + digitOf b) (c ∷ bs))
 
-    fits : valueFrom 10 0 (b ∷ c ∷ bs) ≤ max → eqb b 48 ≡ false → (q : Bool) → leb (suc j) n ≡ q → suc n ≤ suc j
+    fits : valueFrom 10 0 (b ∷ c ∷ bs) ≤ limit → eqb b 48 ≡ false → (q : Bool) → leb (suc j) n ≡ q → suc n ≤ suc j
     fits m e true q = let p : 10 ^ suc j ≤ 10 ^ n = pow-le-pow-right (omega arith) (leb-true (suc j) n q) in let x : ⊥ = omega (arith, least e) in absurd x
     fits m e false q = leb-false (suc j) n q
 
-    go : (z l : Bool) → leb (suc n) 1 ≡ l → (q : Bool) → eqb b 48 ≡ q → (e w : Bool) → leb (valueFrom 10 0 (b ∷ c ∷ bs)) max ≡ w
+    go : (z l : Bool) → leb (suc n) 1 ≡ l → (q : Bool) → eqb b 48 ≡ q → (e w : Bool) → leb (valueFrom 10 0 (b ∷ c ∷ bs)) limit ≡ w
         → isNumber (cond (z && (l || not q)) (cond (e && w) (Number (valueFrom 10 0 (b ∷ c ∷ bs))) NoNumber) NoNumber) ≡ true → suc n ≤ suc j
     go z true p q r e w k u = let x = leb-true (suc n) 1 p in let y : ⊥ = omega arith in absurd y
     go true false p true r e w k u = absurd (false≢true u)
     go false false p q r e w k u = absurd (false≢true u)
     go true false p false r false w k u = absurd (false≢true u)
     go true false p false r true false k u = absurd (false≢true u)
-    go true false p false r true true k u = fits (leb-true (valueFrom 10 0 (b ∷ c ∷ bs)) max k) r (leb (suc j) n) refl
+    go true false p false r true true k u = fits (leb-true (valueFrom 10 0 (b ∷ c ∷ bs)) limit k) r (leb (suc j) n) refl
 
 -- the parts of a text, with a byte after each
 abbrev pub total : List (List ℕ) → ℕ

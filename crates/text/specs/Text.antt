@@ -44,15 +44,15 @@ digitOf b = cond (leb 48 b && leb b 57) (b - 48) (cond (leb 97 b && leb b 102) (
 abbrev pub valueFrom : ℕ → ℕ → List ℕ → ℕ
 valueFrom base v f = foldl (λ w b. w * base + digitOf b) v f
 
--- the number that the digits in a base make after a front of value v; none if a byte is no digit, or if it is above max
+-- the number that the digits in a base make after a front of value v; none if a byte is no digit, or if it is above limit
 unfoldable pub numberFrom : ℕ → ℕ → ℕ → List ℕ → OptionalNumber
-numberFrom base max v f =
-    cond (every (λ b. ltb (digitOf b) base) f && leb (valueFrom base v f) max) (Number (valueFrom base v f)) NoNumber
+numberFrom base limit v f =
+    cond (every (λ b. ltb (digitOf b) base) f && leb (valueFrom base v f) limit) (Number (valueFrom base v f)) NoNumber
 
--- a decimal number: at least one digit, no leading zero, value at most max
+-- a decimal number: at least one digit, no leading zero, value at most limit
 unfoldable pub decimalOf : ℕ → List ℕ → OptionalNumber
-decimalOf max f =
-    cond (ltb 0 (length f) && (leb (length f) 1 || not (eqb (getD f 0 0) 48))) (numberFrom 10 max 0 f) NoNumber
+decimalOf limit f =
+    cond (ltb 0 (length f) && (leb (length f) 1 || not (eqb (getD f 0 0) 48))) (numberFrom 10 limit 0 f) NoNumber
 
 -- a hexadecimal number: exactly k digits, lower case, a value of at most 64 bits
 unfoldable pub hexOf : ℕ → List ℕ → OptionalNumber

@@ -107,9 +107,9 @@ fn digit(b: u8) -> u64
 }
 
 // The number that digits in a base make.
-fn number(f: &[u8], base: u64, max: u64) -> OptionalNumber
+fn number(f: &[u8], base: u64, limit: u64) -> OptionalNumber
     requires { ⌜ 0 < base ⌝ }
-    ensures { λ r. ⌜ r ≡ numberFrom base max 0 (now (f .entry)) ⌝ }
+    ensures { λ r. ⌜ r ≡ numberFrom base limit 0 (now (f .entry)) ⌝ }
 {
     let mut v: u64 = 0;
     let mut i = 0;
@@ -118,10 +118,10 @@ fn number(f: &[u8], base: u64, max: u64) -> OptionalNumber
         if base <= d {
             return OptionalNumber::NoNumber;
         }
-        if max / base < v {
+        if limit / base < v {
             return OptionalNumber::NoNumber;
         }
-        if max - v * base < d {
+        if limit - v * base < d {
             return OptionalNumber::NoNumber;
         }
         v = v * base + d;
@@ -141,8 +141,8 @@ fn has_leading_zero(f: &[u8]) -> bool
 }
 
 // The decimal number that a text is.
-pub fn decimal(f: &[u8], max: u32) -> OptionalNumber
-    ensures { λ r. ⌜ r ≡ decimalOf max (now (f .entry)) ⌝ }
+pub fn decimal(f: &[u8], limit: u32) -> OptionalNumber
+    ensures { λ r. ⌜ r ≡ decimalOf limit (now (f .entry)) ⌝ }
 {
     if f.len() == 0 {
         return OptionalNumber::NoNumber;
@@ -150,7 +150,7 @@ pub fn decimal(f: &[u8], max: u32) -> OptionalNumber
     if has_leading_zero(f) {
         return OptionalNumber::NoNumber;
     }
-    number(f, 10, max as u64)
+    number(f, 10, limit as u64)
 }
 
 // The hexadecimal number of so many digits that a text is.

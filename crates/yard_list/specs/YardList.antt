@@ -4,10 +4,8 @@ use mathlib.Core.Bool.{Bool, true, false, cond, _&&_}
 use mathlib.Core.List.{List, [], _∷_, _++_, map}
 use lib.Dec.{eqb, ltb, leb}
 use lib.ListN.{length, take, getD}
-use Rattle.nib.specs.Neighbors.{blank}
+use Rattle.nib.specs.Neighbors.{NONE, deviceType, blank}
 use Rattle.nib.specs.declared.NwkNeighbor.{NwkNeighbor}
-use Rattle.nib.specs.declared.DeviceType.{DeviceType}
-use Rattle.nib.specs.declared.DeviceType.the-variants.{Coordinator, Router}
 use Rattle.candidates.specs.Candidates.{candidates}
 use Rattle.text.specs.Text.{bytes, parts, fields, sameText, decimalOf, hexOf, orZero, isNumber, decimalText, hexText}
 use Rattle.yard_list.specs.declared.Form.{Form}
@@ -18,7 +16,7 @@ abbrev pub fits : Form → List ℕ → Bool
 fits RequestWord f = sameText f (bytes "request")
 fits EntryWord f = sameText f (bytes "n")
 fits (Hex digits) f = isNumber (hexOf digits f)
-fits (Decimal max) f = isNumber (decimalOf max f)
+fits (Decimal limit) f = isNumber (decimalOf limit f)
 
 -- line 1: `request`, extended PAN id, role, permit wanted, stack profile
 abbrev pub requestForms : List Form
@@ -55,10 +53,6 @@ byteAt fs k = orZero (decimalOf 255 (getD fs k []))
 abbrev pub flagAt : List (List ℕ) → ℕ → Bool
 flagAt fs k = eqb (orZero (decimalOf 1 (getD fs k []))) 1
 
--- a coordinator has address 0
-abbrev pub deviceType : ℕ → DeviceType
-deviceType address = cond (eqb address 0) Coordinator Router
-
 -- the neighbour entry of a line's fields: IEEE address 0 and relationship NONE (3), as a scan makes it (01, "Neighbour entry")
 unfoldable pub entryOf : List (List ℕ) → NwkNeighbor
 entryOf fs =
@@ -68,7 +62,7 @@ entryOf fs =
       «device_type» = deviceType (hexAt 4 fs 1);
       «rx_on_when_idle» = false;
       «end_device_configuration» = 0;
-      relationship = 3;
+      relationship = NONE;
       lqi = byteAt fs 8;
       «outgoing_cost» = 0;
       age = 0;

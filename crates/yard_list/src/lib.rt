@@ -10,9 +10,8 @@ ghost use Rattle.nib.specs.Neighbors.{blank, entriesOf, tableOf};
 ghost use Rattle.candidates.specs.Candidates.{listOf, itemsOf};
 ghost use Rattle.text.specs.Text.{parts, fields, orZero, isNumber, decimalText, hexText};
 ghost use Rattle.yard_list.specs.Steps.{formsOf, Named};
-ghost use Rattle.yard_list.specs.YardList.{fits, requestForms, entryForms, allFit, isGood, goodFrom, hexAt, byteAt, flagAt, deviceType, entryOf, entriesIn, chosen, cell, rowOf, rowsFrom, listText, badText, yardText};
+ghost use Rattle.yard_list.specs.YardList.{fits, requestForms, entryForms, allFit, isGood, goodFrom, hexAt, byteAt, flagAt, entryOf, entriesIn, chosen, cell, rowOf, rowsFrom, listText, badText, yardText};
 use candidates::CandidateList;
-use nib::DeviceType;
 use nib::ExtendedPanId;
 use nib::IeeeAddress;
 use nib::NeighborTable;
@@ -63,7 +62,7 @@ fn has_form(f: &[u8], form: Form) -> bool
         Form::RequestWord => text::same(f, b"request"),
         Form::EntryWord => text::same(f, b"n"),
         Form::Hex(digits) => is_number(text::hex(f, digits)),
-        Form::Decimal(max) => is_number(text::decimal(f, max)),
+        Form::Decimal(limit) => is_number(text::decimal(f, limit)),
     }
 }
 
@@ -197,22 +196,12 @@ fn flag_at(line: &[u8], k: usize) -> bool
     or_zero(text::decimal(text::field(line, k), 1)) == 1
 }
 
-fn device_type_of(address: u16) -> DeviceType
-    ensures { λ r. ⌜ r ≡ deviceType address ⌝ }
-{
-    if address == 0 {
-        DeviceType::Coordinator
-    } else {
-        DeviceType::Router
-    }
-}
-
 // The neighbour entry of a line.
 fn read_entry(line: &[u8]) -> NwkNeighbor
     ensures { λ r. ⌜ r ≡ entryOf (fields (now (line .entry))) ⌝ }
 {
     let address = short_at(line, 1);
-    let device_type = device_type_of(address);
+    let device_type = nib::device_type_at(ShortAddress(address));
     let extended = hex_at(line, 16, 2);
     let logical_channel = byte_at(line, 3);
     let depth = byte_at(line, 4);

@@ -12,10 +12,10 @@ use Rattle.text.proofs.number.Statement.{statement}
 use Rattle.text.proofs.number.Tie as tie
 
 abbrev Inv-loop : tie.InvT-loop
-Inv-loop f base max v₀ i₀ v i = (i ≤ length f) × (v ≤ max) × (numberFrom base max 0 f ≡ numberFrom base max v (drop i f))
+Inv-loop f base limit v₀ i₀ v i = (i ≤ length f) × (v ≤ limit) × (numberFrom base limit 0 f ≡ numberFrom base limit v (drop i f))
 
 abbrev μ-loop : tie.MeasureT-loop
-μ-loop f base max v₀ i₀ v i = length f - i
+μ-loop f base limit v₀ i₀ v i = length f - i
 
 loop-holds : tie.Need-loop-holds Inv-loop μ-loop
 loop-holds c = (omega arith, omega arith, refl)
@@ -30,7 +30,7 @@ returns : tie.Need-returns Inv-loop μ-loop
 returns c =
     let b = c .before .before .before .before in
     let a = b .before .before .args in
-    sym (b .loop .inv .2 ∙ number-stops (a .base) (a .max) (b .loop .v) (a .f .now) (b .loop .i) (c .before .before .before .loop-test .taken) (omega (arith, c .before .digit .ensures)))
+    sym (b .loop .inv .2 ∙ number-stops (a .base) (a .limit) (b .loop .v) (a .f .now) (b .loop .i) (c .before .before .before .loop-test .taken) (omega (arith, c .before .digit .ensures)))
 
 div-if2 : tie.Need-div-if2 Inv-loop μ-loop
 div-if2 c = omega arith
@@ -41,14 +41,14 @@ returns-2 c =
     let a = b .before .before .args in
     let v = b .loop .v in
     let p : 0 < a .base = b .before .before .pre in
-    let l : a .max < v * a .base = div-lt-iff-lt-mul p .0 (c .if2 .taken) in
-    sym (b .loop .inv .2 ∙ number-large (a .base) (a .max) v (a .f .now) (b .loop .i) (c .before .before .before .before .loop-test .taken) p (omega arith))
+    let l : a .limit < v * a .base = div-lt-iff-lt-mul p .0 (c .if2 .taken) in
+    sym (b .loop .inv .2 ∙ number-large (a .base) (a .limit) v (a .f .now) (b .loop .i) (c .before .before .before .before .loop-test .taken) p (omega arith))
 
 mul-if3 : tie.Need-mul-if3 Inv-loop μ-loop
 mul-if3 c =
     let b = c .before .before .before .before .before in
     let a = b .before .before .args in
-    let l : b .loop .v * a .base ≤ a .max = le-div-iff-mul-le (b .before .before .pre) .0 (c .if2 .left) in
+    let l : b .loop .v * a .base ≤ a .limit = le-div-iff-mul-le (b .before .before .pre) .0 (c .if2 .left) in
     omega arith
 
 sub-if3 : tie.Need-sub-if3 Inv-loop μ-loop
@@ -62,21 +62,21 @@ returns-3 c =
     let a = b .before .before .args in
     let v = b .loop .v in
     let p : 0 < a .base = b .before .before .pre in
-    let l : v * a .base ≤ a .max = le-div-iff-mul-le p .0 (c .before .if2 .left) in
-    sym (b .loop .inv .2 ∙ number-large (a .base) (a .max) v (a .f .now) (b .loop .i) (c .before .before .before .before .before .loop-test .taken) p (omega (arith, c .if3 .taken, c .before .before .before .digit .ensures)))
+    let l : v * a .base ≤ a .limit = le-div-iff-mul-le p .0 (c .before .if2 .left) in
+    sym (b .loop .inv .2 ∙ number-large (a .base) (a .limit) v (a .f .now) (b .loop .i) (c .before .before .before .before .before .loop-test .taken) p (omega (arith, c .if3 .taken, c .before .before .before .digit .ensures)))
 
 mul-v : tie.Need-mul-v Inv-loop μ-loop
 mul-v c =
     let b = c .before .before .before .before .before .before in
     let a = b .before .before .args in
-    let l : b .loop .v * a .base ≤ a .max = le-div-iff-mul-le (b .before .before .pre) .0 (c .before .if2 .left) in
+    let l : b .loop .v * a .base ≤ a .limit = le-div-iff-mul-le (b .before .before .pre) .0 (c .before .if2 .left) in
     omega arith
 
 add-v : tie.Need-add-v Inv-loop μ-loop
 add-v c =
     let b = c .before .before .before .before .before .before in
     let a = b .before .before .args in
-    let l : b .loop .v * a .base ≤ a .max = le-div-iff-mul-le (b .before .before .pre) .0 (c .before .if2 .left) in
+    let l : b .loop .v * a .base ≤ a .limit = le-div-iff-mul-le (b .before .before .pre) .0 (c .before .if2 .left) in
     omega (arith, c .if3 .left)
 
 add-i : tie.Need-add-i Inv-loop μ-loop
@@ -91,11 +91,11 @@ loop-again c =
     let a = b .before .before .args in
     let v = b .loop .v in
     let d = c .before .before .before .digit in
-    let l : v * a .base ≤ a .max = le-div-iff-mul-le (b .before .before .pre) .0 (c .before .if2 .left) in
+    let l : v * a .base ≤ a .limit = le-div-iff-mul-le (b .before .before .pre) .0 (c .before .if2 .left) in
     let k : digitOf (getD (a .f .now) (b .loop .i) 0) < a .base = omega (arith, d .ensures, c .before .before .if1 .left) in (
       omega arith,
       omega (arith, c .if3 .left),
-      b .loop .inv .2 ∙ number-on (a .base) (a .max) v (a .f .now) (b .loop .i) (c .before .before .before .before .before .loop-test .taken) k ∙ ap (λ (n : ℕ). numberFrom (a .base) (a .max) (v * a .base + n) (drop (b .loop .i + 1) (a .f .now))) (sym (d .ensures)),
+      b .loop .inv .2 ∙ number-on (a .base) (a .limit) v (a .f .now) (b .loop .i) (c .before .before .before .before .before .loop-test .taken) k ∙ ap (λ (n : ℕ). numberFrom (a .base) (a .limit) (v * a .base + n) (drop (b .loop .i + 1) (a .f .now))) (sym (d .ensures)),
     )
 
 returns-4 : tie.Need-returns-4 Inv-loop μ-loop
@@ -103,7 +103,7 @@ unfolding numberFrom
 returns-4 c =
     let b = c .before in
     let a = b .before .before .args in
-    sym (b .loop .inv .2 ∙ rw (drop-of-length-le (a .f .now) (c .loop-test .left), le-leb (b .loop .v) (a .max) (b .loop .inv .1)))
+    sym (b .loop .inv .2 ∙ rw (drop-of-length-le (a .f .now) (c .loop-test .left), le-leb (b .loop .v) (a .limit) (b .loop .inv .1)))
 
 pub number-spec : {M : Type 1} → statement M
 number-spec =

@@ -1,7 +1,8 @@
 -- `read_entry` meets its contract. Assumes nothing.
 use mathlib.Core.Path.{ap, _∙_}
 use mathlib.Core.Bool.{false}
-use Rattle.yard_list.specs.YardList.{entryOf, deviceType}
+use Rattle.nib.specs.Neighbors.{deviceType}
+use Rattle.yard_list.specs.YardList.{entryOf}
 use borrow.Author.Needs.{needs}
 use Rattle.yard_list.proofs.read_entry.Statement.{statement}
 use Rattle.yard_list.proofs.read_entry.Tie as tie
@@ -9,8 +10,8 @@ use Rattle.yard_list.proofs.read_entry.Tie as tie
 short-at-requires : tie.Need-short-at-requires
 short-at-requires c κs = search needs
 
-device-type-of-requires : tie.Need-device-type-of-requires
-device-type-of-requires c κs = search needs
+device-type-at-requires : tie.Need-device-type-at-requires
+device-type-at-requires c κs = search needs
 
 hex-at-requires : tie.Need-hex-at-requires
 hex-at-requires c κs = search needs
@@ -48,7 +49,7 @@ returns c =
     λ j. record {
       «extended_address» = record { 0 = 0 };
       «network_address» = record { 0 = c .before .before .before .before .before .before .before .before .before .before .before .short-at .ensures j };
-      «device_type» = (c .before .before .before .before .before .before .before .before .before .before .device-type-of .ensures ∙ ap deviceType (c .before .before .before .before .before .before .before .before .before .before .before .short-at .ensures)) j;
+      «device_type» = (c .before .before .before .before .before .before .before .before .before .before .device-type-at .ensures ∙ ap deviceType (c .before .before .before .before .before .before .before .before .before .before .before .short-at .ensures)) j;
       «rx_on_when_idle» = false;
       «end_device_configuration» = 0;
       relationship = 3;
@@ -72,7 +73,7 @@ read-entry-spec =
     tie.close
     (tie.spec
     short-at-requires
-    device-type-of-requires
+    device-type-at-requires
     hex-at-requires
     byte-at-requires
     byte-at-requires-2
