@@ -5,7 +5,6 @@ use mathlib.Core.List.{[]}
 use lib.Dec.{eqb, ltb}
 use lib.ListN.{set, replicate}
 use Rattle.nib.specs.Neighbors.{tableOf, pushed}
-use Rattle.nib.specs.declared.NwkNeighbor.{NwkNeighbor}
 use Rattle.mlme.specs.declared.Address.the-variants.{Short}
 use Rattle.mlme.specs.declared.PanDescriptor.{PanDescriptor}
 use Rattle.mlme.specs.declared.PanDescriptorList.{PanDescriptorList}

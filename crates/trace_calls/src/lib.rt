@@ -3,11 +3,9 @@ ghost use mathlib.Core.Path.{_≡_};
 ghost use mathlib.Core.List.{[]};
 ghost use Prim.Native.Nat.{_-_};
 ghost use Rattle.nib.specs.Neighbors.{pushed};
-ghost use Rattle.candidates.specs.Candidates.{listOf};
-ghost use Rattle.supervision.specs.Failures.{failuresOf};
 ghost use Rattle.discovery.specs.Discovery.{confirmOf};
 ghost use Rattle.node.specs.Looks.{withTable};
-ghost use Rattle.trace_calls.specs.TraceCalls.{noNode, noSignals, ownPart, idle, begun, withPair, withPairs, unheard, withBeacon, before, setUp, saying, nothing, told, withNetworks, scanAfter, chosen, kindOf, hasRoom, hasNode, isBeacon, mayCome, fitsAt, taken};
+ghost use Rattle.trace_calls.specs.TraceCalls.{noNode, ownPart, idle, begun, withPair, withPairs, unheard, withBeacon, before, setUp, saying, nothing, told, withNetworks, scanAfter, chosen, kindOf, hasRoom, hasNode, isBeacon, mayCome, fitsAt, taken};
 ghost use Rattle.trace_calls.specs.Steps.{stateAfter, heardOf, answer, called};
 use candidates::CandidateList;
 use discovery::NlmeNetworkDiscoveryConfirm;
@@ -106,35 +104,16 @@ fn no_node() -> NodeFields
     }
 }
 
-fn no_signals() -> Signals
-    ensures { λ r. ⌜ r ≡ noSignals ⌝ }
-{
-    Signals {
-        rejoin_response: RejoinResponseSlot::NoRejoinResponse,
-        timeout_response: TimeoutResponseSlot::NoTimeoutResponse,
-        leave_indication: LeaveIndicationSlot::NoLeaveIndication,
-        nwk_status_indication: StatusIndicationSlot::NoStatusIndication,
-    }
-}
-
-fn no_failures() -> TransmitFailures
-    ensures { λ r. ⌜ r ≡ failuresOf [] ⌝ }
-{
-    let none = TransmitFailure {
-        address: ShortAddress(0),
-        count: 0,
-    };
-    let pairs = [none; 16];
-    TransmitFailures { pairs, count: 0 }
-}
-
 // The node's own part: no pairs, and every slot is empty.
 fn own_part(node: NodeFields) -> Nlme
     ensures { λ r. ⌜ r ≡ ownPart node ⌝ }
 {
     let nib = node.nib;
-    let signals = no_signals();
-    let transmit_failures = no_failures();
+    let none = TransmitFailure {
+        address: ShortAddress(0),
+        count: 0,
+    };
+    let pairs = [none; 16];
     Nlme {
         nib,
         nwk_seq: node.nwk_seq,
@@ -142,8 +121,13 @@ fn own_part(node: NodeFields) -> Nlme
         parent_timer: ParentTimer {
             remaining_ms: node.remaining_ms,
         },
-        signals,
-        transmit_failures,
+        signals: Signals {
+            rejoin_response: RejoinResponseSlot::NoRejoinResponse,
+            timeout_response: TimeoutResponseSlot::NoTimeoutResponse,
+            leave_indication: LeaveIndicationSlot::NoLeaveIndication,
+            nwk_status_indication: StatusIndicationSlot::NoStatusIndication,
+        },
+        transmit_failures: TransmitFailures { pairs, count: 0 },
     }
 }
 
@@ -165,15 +149,6 @@ fn idle() -> Operation
     }
 }
 
-fn no_candidates() -> CandidateList
-    ensures { λ r. ⌜ r ≡ listOf [] ⌝ }
-{
-    CandidateList {
-        indexes: [0; 16],
-        count: 0,
-    }
-}
-
 // A node with no neighbours and no operation under way.
 fn begun(node: NodeFields) -> State
     ensures { λ r. ⌜ r ≡ begun node ⌝ }
@@ -182,7 +157,10 @@ fn begun(node: NodeFields) -> State
     let operation = idle();
     let control = Control { nlme, operation };
     let table = NeighborTable::new();
-    let list = no_candidates();
+    let list = CandidateList {
+        indexes: [0; 16],
+        count: 0,
+    };
     let candidates = Candidates { list, taken: 0 };
     State {
         control,
@@ -389,7 +367,10 @@ fn turn_saying(
     ensures { λ r. ⌜ r ≡ saying said (record { state = state; stage = stage; missing = missing; scan = scan }) ⌝ }
 {
     let networks = no_networks();
-    let list = no_candidates();
+    let list = CandidateList {
+        indexes: [0; 16],
+        count: 0,
+    };
     Turn {
         session: Session {
             state,
@@ -410,7 +391,10 @@ fn told(scan: PanDescriptorList, answer: Answer, networks: NlmeNetworkDiscoveryC
     let state = answer.state;
     let note = answer.note;
     let step = answer.step;
-    let list = no_candidates();
+    let list = CandidateList {
+        indexes: [0; 16],
+        count: 0,
+    };
     Turn {
         session: Session {
             state,

@@ -13,13 +13,9 @@ idle-requires c κs = search needs
 new-requires : tie.Need-new-requires
 new-requires c κs = search needs
 
-no-candidates-requires : tie.Need-no-candidates-requires
-no-candidates-requires c κs = search needs
-
 returns : tie.Need-returns
 unfolding begun
-returns c = rw (c .no-candidates .ensures, c .before .new .ensures, c .before .before .idle .ensures, c .before .before .before .own-part .ensures)
+returns c = rw (c .new .ensures, c .before .idle .ensures, c .before .before .own-part .ensures)
 
 pub begun-spec : {M : Type 1} → statement M
-begun-spec =
-    tie.close (tie.spec own-part-requires idle-requires new-requires no-candidates-requires returns)
+begun-spec = tie.close (tie.spec own-part-requires idle-requires new-requires returns)

@@ -6,16 +6,8 @@ use Rattle.trace_calls.proofs.turn_saying.Tie as tie
 no-networks-requires : tie.Need-no-networks-requires
 no-networks-requires c κs = search needs
 
-no-candidates-requires : tie.Need-no-candidates-requires
-no-candidates-requires c κs = search needs
-
 returns : tie.Need-returns
-returns c = rw (c .no-candidates .ensures, c .before .no-networks .ensures)
+returns c = rw (c .no-networks .ensures)
 
 pub turn-saying-spec : {M : Type 1} → statement M
-turn-saying-spec =
-    tie.close
-    (tie.spec
-    no-networks-requires
-    no-candidates-requires
-    returns)
+turn-saying-spec = tie.close (tie.spec no-networks-requires returns)
