@@ -94,28 +94,25 @@ impl State {
         Tables { table, candidates }
     }
 
-    fn with_control(self, control: Control) -> State
+    fn with_control(mut self, control: Control) -> State
         ensures { λ r. ⌜ r ≡ withControl control self ⌝ }
     {
-        let mut out = self;
-        out.control = control;
-        out
+        self.control = control;
+        self
     }
 
-    fn with_table(self, table: NeighborTable) -> State
+    fn with_table(mut self, table: NeighborTable) -> State
         ensures { λ r. ⌜ r ≡ withTable table self ⌝ }
     {
-        let mut out = self;
-        out.table = table;
-        out
+        self.table = table;
+        self
     }
 
-    fn with_candidates(self, candidates: Candidates) -> State
+    fn with_candidates(mut self, candidates: Candidates) -> State
         ensures { λ r. ⌜ r ≡ withCandidates candidates self ⌝ }
     {
-        let mut out = self;
-        out.candidates = candidates;
-        out
+        self.candidates = candidates;
+        self
     }
 
     fn with_tables(self, tables: Tables) -> State
