@@ -114,14 +114,14 @@ unfolding pollStarted
 pollStarted-made Absent c = refl
 pollStarted-made (Entry e) c = refl
 
-failed-made : (a : NegotiationAnswer) (k : Bool) (p : Neighbor) (c : Control) → Made (timeoutFailed a k p c)
+timeoutFailed-made : (a : NegotiationAnswer) (k : Bool) (p : Neighbor) (c : Control) → Made (timeoutFailed a k p c)
 unfolding timeoutFailed
-failed-made a true p c = refl
-failed-made a false p c = refl
+timeoutFailed-made a true p c = refl
+timeoutFailed-made a false p c = refl
 
 pub timeout-made : (k : Bool) (p : Neighbor) (c : Control) → Made (timeoutStarted k p c)
 unfolding timeoutStarted
-timeout-made k Absent c = failed-made _ k Absent _
+timeout-made k Absent c = timeoutFailed-made _ k Absent _
 timeout-made k (Entry e) c = refl
 
 accepted-made : (k : Bool) (c : Control) → Made (accepted k c)
@@ -131,7 +131,7 @@ accepted-made false c = refl
 
 timeoutUnanswered-made : (k : Bool) (p : Neighbor) (c : Control) → Made (timeoutUnanswered k p c)
 unfolding timeoutUnanswered
-timeoutUnanswered-made k p c = failed-made _ k p _
+timeoutUnanswered-made k p c = timeoutFailed-made _ k p _
 
 timeoutPoll-made : (k : Bool) (p : Neighbor) (c : Control) → Made (timeoutPollParent k p c)
 unfolding timeoutPollParent timeoutPolling
@@ -140,7 +140,7 @@ timeoutPoll-made k (Entry e) c = refl
 
 timeoutAnswered-made : (a : TimeoutResponseSlot) (k : Bool) (p : Neighbor) (c : Control) → Made (timeoutAnsweredBy a k p c)
 unfolding timeoutAnsweredBy
-timeoutAnswered-made (HasTimeoutResponse r) k p c = by-cases Made (eqb (r .status) 0) (λ _. accepted-made k _) (failed-made _ k p _)
+timeoutAnswered-made (HasTimeoutResponse r) k p c = by-cases Made (eqb (r .status) 0) (λ _. accepted-made k _) (timeoutFailed-made _ k p _)
 timeoutAnswered-made NoTimeoutResponse k p c = by-cases Made (eqb (c .operation .«polls_left») 0) (λ _. timeoutUnanswered-made k p c) (timeoutPoll-made k p c)
 
 timeoutPollOn-made : (k : Bool) (p : Neighbor) (c : Control) → Made (timeoutPollOn k p c)
@@ -150,7 +150,7 @@ timeoutPollOn-made k p c = timeoutAnswered-made (c .nlme .signals .«timeout_res
 pub timeoutSent-made : (k ok : Bool) (p : Neighbor) (c : Control) → Made (timeoutRequestSent k ok p c)
 unfolding timeoutRequestSent
 timeoutSent-made k true p c = timeoutPollOn-made k p c
-timeoutSent-made k false p c = failed-made _ k p c
+timeoutSent-made k false p c = timeoutFailed-made _ k p c
 
 -- what a poll was for goes on
 pub continuing-made : (u : Purpose) (a : PollAnswer) (p x : Neighbor) (c : Control) → Made (continuing u a p x c)
