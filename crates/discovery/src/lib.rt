@@ -101,7 +101,7 @@ fn entry_from(pd: PanDescriptor, address: ShortAddress) -> NwkNeighbor
 }
 
 // The neighbour entry of a descriptor, or none where its sender has no short address.
-pub fn neighbor_from(pd: PanDescriptor) -> Neighbor
+fn neighbor_from(pd: PanDescriptor) -> Neighbor
     ensures { λ r. ⌜ r ≡ neighborOf pd ⌝ }
 {
     let address = pd.coord_address;
@@ -115,7 +115,7 @@ pub fn neighbor_from(pd: PanDescriptor) -> Neighbor
 }
 
 // What the confirm tells of a descriptor.
-pub fn network_descriptor(pd: PanDescriptor) -> NetworkDescriptor
+fn network_descriptor(pd: PanDescriptor) -> NetworkDescriptor
     ensures { λ r. ⌜ r ≡ networkDescriptor pd ⌝ }
 {
     let beacon = pd.zigbee_beacon;

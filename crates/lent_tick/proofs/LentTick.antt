@@ -10,7 +10,7 @@ use Rattle.lists.proofs.Conditions.{pick-true, pick-false}
 use Rattle.parent_timer.specs.declared.ParentTimer.{ParentTimer}
 use Rattle.operation.specs.declared.Step.the-variants.{Refused}
 use Rattle.operation.proofs.Step.{the-type}
-use Rattle.node.specs.Refusals.{strayIndex, bad, refuse, otherOrRefusal}
+use Rattle.node.specs.Refusals.{indexPastTable, bad, refuse, otherOrRefusal}
 use Rattle.node.specs.Calls.{tick}
 use Rattle.node.specs.declared.State.{State}
 use Rattle.node.specs.declared.Answer.{Answer}
@@ -32,7 +32,7 @@ noRefusal = 1 ∷ 2 ∷ 3 ∷ 4 ∷ 5 ∷ 6 ∷ 7 ∷ 8 ∷ 9 ∷ 10 ∷ 11 ∷ 
 -- a is the tick of the state with the lent record: if it says that it was refused, 5 turned it down; if it says anything else, 5 did not
 module _ (t : ParentTimer) (elapsed : ℕ) (s : State) (a : Answer) (e : a ≡ tick elapsed (withTimer t s)) where
   tag : tagOf the-type (a .step) ≡ cond (bad s) 0 9
-  unfolding bad strayIndex
+  unfolding bad indexPastTable
   tag = ap (λ (x : Answer). tagOf the-type (x .step)) e ∙ tag-of elapsed (withTimer t s)
 
   pub if-refused : (n : ℕ) → a .step ≡ Refused n → turnedDown t s ≡ lentTick t elapsed s

@@ -67,7 +67,7 @@ fn look_for(table: NeighborTable, wanted: Wanted) -> Neighbor
 }
 
 // The first entry with a short address.
-pub fn find(table: NeighborTable, address: ShortAddress) -> Neighbor
+fn find(table: NeighborTable, address: ShortAddress) -> Neighbor
     ensures { λ r. ⌜ r ≡ found (address .0) (entriesOf table) ⌝ }
 {
     look_for(table, Wanted::Address(address))

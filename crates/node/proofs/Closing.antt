@@ -33,21 +33,21 @@ use Rattle.operation.specs.declared.Move.{Move}
 use Rattle.operation.specs.declared.Move.the-variants.{Stay, TakeNext, AdoptNext, JoinTried}
 use Rattle.operation.specs.declared.Decision.{Decision}
 use Rattle.join.specs.Join.{failing, joinStarted}
-use Rattle.steps.specs.Steps.{moving, barring, writes, joinAskedBy, scanOverIn, followed, receptionOverIn, transmissionOverIn, leavesNetwork}
+use Rattle.steps.specs.Steps.{moving, clearingPotential, writes, joinAskedBy, scanOverIn, followed, receptionOverIn, transmissionOverIn, leavesNetwork}
 use Rattle.scans.specs.Scans.{chosenIn, isDiscovery, heardBy}
 use Rattle.starts.specs.Starts.{forJoin}
 use Rattle.receptions.specs.Receptions.{noDataIn, changedBy}
 use Rattle.node.specs.declared.State.{State}
 use Rattle.node.specs.declared.Answer.{Answer}
 use Rattle.node.specs.declared.ReceptionOutcome.the-variants.{NoData, ReceptionFailed, Received}
-use Rattle.node.specs.Looks.{withControl, withTable, withCandidates, parent, next, broadcast, moved, barred, finish}
+use Rattle.node.specs.Looks.{withControl, withTable, withCandidates, parent, next, broadcast, moved, potentialCleared, finish}
 use Rattle.node.specs.Refusals.{refuse}
 use Rattle.node.specs.Calls.{deciding, chosen, joinBy, joinFrom, heard, noConfirm, scanFailed, rejoinHeard, discovered, scanFound, withNode, changed, after, taughtOn, receivedFor, receivedIn, afterLeave, sentIn}
 use Rattle.node.specs.Parts.{tablesOf, withTables}
 
 -- what a decision writes, or leaves where it writes nothing
-pub written-is : (m : Move) (b : Bool) (s : State) → withTables (moving m (barring b (tablesOf s))) s ≡ moved m (barred b s)
-unfolding moving barring moved barred
+pub written-is : (m : Move) (b : Bool) (s : State) → withTables (moving m (clearingPotential b (tablesOf s))) s ≡ moved m (potentialCleared b s)
+unfolding moving clearingPotential moved potentialCleared
 written-is Stay true s = refl
 written-is Stay false s = refl
 written-is TakeNext true s = refl
@@ -57,8 +57,8 @@ written-is AdoptNext false s = refl
 written-is JoinTried true s = refl
 written-is JoinTried false s = refl
 
-pub unwritten-is : (b : Bool) (m : Move) (s : State) → writes b m ≡ false → s ≡ moved m (barred b s)
-unfolding moved barred
+pub unwritten-is : (b : Bool) (m : Move) (s : State) → writes b m ≡ false → s ≡ moved m (potentialCleared b s)
+unfolding moved potentialCleared
 unwritten-is true m s e = absurd (false≢true (sym e))
 unwritten-is false Stay s e = refl
 unwritten-is false TakeNext s e = absurd (false≢true (sym e))
@@ -66,8 +66,8 @@ unwritten-is false AdoptNext s e = absurd (false≢true (sym e))
 unwritten-is false JoinTried s e = absurd (false≢true (sym e))
 
 -- a decision brings its own control part
-moved-control : (m : Move) (b : Bool) (c d : Control) (s : State) → withControl d (moved m (barred b s)) ≡ withControl d (moved m (barred b (withControl c s)))
-unfolding moved barred
+moved-control : (m : Move) (b : Bool) (c d : Control) (s : State) → withControl d (moved m (potentialCleared b s)) ≡ withControl d (moved m (potentialCleared b (withControl c s)))
+unfolding moved potentialCleared
 moved-control Stay true c d s = refl
 moved-control Stay false c d s = refl
 moved-control TakeNext true c d s = refl

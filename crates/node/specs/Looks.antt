@@ -8,7 +8,7 @@ use Rattle.nib.specs.declared.NeighborTable.{NeighborTable}
 use Rattle.nib.specs.declared.Neighbor.{Neighbor}
 use Rattle.nib.specs.declared.OptionalIeee.{OptionalIeee}
 use Rattle.neighbor_table.specs.NeighborTable.{ieeeOf, onEntries}
-use Rattle.tries.specs.Tries.{parentIn, triedIn, nextIn, taking, adoptedNext, joinedTried, barredTried}
+use Rattle.tries.specs.Tries.{parentIn, triedIn, nextIn, taking, adoptedNext, joinedTried, potentialClearedTried}
 use Rattle.tries.specs.declared.Candidates.{Candidates}
 use Rattle.operation.specs.declared.Control.{Control}
 use Rattle.operation.specs.declared.Move.{Move}
@@ -53,14 +53,14 @@ moved AdoptNext s = takenNext (withTable (onEntries (adoptedNext (s .candidates)
 moved JoinTried s = withTable (onEntries (joinedTried (s .candidates)) (s .table)) s
 
 -- the candidate being tried is no longer a potential parent
-unfoldable pub barred : Bool → State → State
-barred b s = cond b (withTable (onEntries (barredTried (s .candidates)) (s .table)) s) s
+unfoldable pub potentialCleared : Bool → State → State
+potentialCleared b s = cond b (withTable (onEntries (potentialClearedTried (s .candidates)) (s .table)) s) s
 
 -- a decision carried out; `reset` is the reset note (01, "Received frame")
 unfoldable pub finish : Bool → State → Decision → Answer
 finish reset s d =
     record {
-      state = withControl (d .control) (moved (d .candidate) (barred (d .«clear_potential_parent») s));
+      state = withControl (d .control) (moved (d .candidate) (potentialCleared (d .«clear_potential_parent») s));
       reset = reset;
       note = d .note;
       step = d .step;

@@ -2,7 +2,7 @@
 use Prim.Native.Nat.{ℕ}
 use mathlib.Core.Bool.{Bool, false, cond, _&&_, _||_}
 use lib.Dec.{ltb}
-use Rattle.tries.specs.Tries.{strays}
+use Rattle.tries.specs.Tries.{pastTable}
 use Rattle.operation.specs.Operation.{isIdle, awaitsAssociation}
 use Rattle.operation.specs.declared.Note.the-variants.{NoNote}
 use Rattle.operation.specs.declared.Step.the-variants.{Refused}
@@ -14,10 +14,10 @@ unfoldable pub refuse : ℕ → State → Answer
 refuse k s = record { state = s; reset = false; note = NoNote; step = Refused k; «polls_used» = 0 }
 
 -- an index being tried or still to be tried in an association is not below the neighbour count
-unfoldable pub strayIndex : State → Bool
-strayIndex s =
+unfoldable pub indexPastTable : State → Bool
+indexPastTable s =
     awaitsAssociation (s .control .operation .phase)
-    && strays (s .table .count) (s .candidates)
+    && pastTable (s .table .count) (s .candidates)
 
 -- 5: "a count in the state is above 16, polls left above 20, or an index being tried or still to be tried in an association is not below the neighbour count"
 unfoldable pub bad : State → Bool
@@ -27,7 +27,7 @@ bad s =
     || (ltb 16 (s .candidates .list .count)
     || (ltb 16 (s .candidates .taken)
     || (ltb 20 (s .control .operation .«polls_left»)
-    || strayIndex s))))
+    || indexPastTable s))))
 
 -- a start: 5, then 1 if an operation is under way
 unfoldable pub startOrRefusal : State → Answer → Answer

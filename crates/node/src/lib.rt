@@ -3,7 +3,7 @@ ghost use mathlib.Core.Path.{_≡_};
 ghost use mathlib.Core.Bool.{true, false};
 ghost use lib.Dec.{eqb};
 ghost use Rattle.operation.specs.Operation.{awaited};
-ghost use Rattle.node.specs.Looks.{withControl, withTable, withCandidates, parent, next, moved, barred, finish};
+ghost use Rattle.node.specs.Looks.{withControl, withTable, withCandidates, parent, next, moved, potentialCleared, finish};
 ghost use Rattle.node.specs.Refusals.{refuse, bad, startOrRefusal, otherOrRefusal};
 ghost use Rattle.node.specs.Calls.{deciding, startDiscovery, startJoin, startSend, startPoll, startReceive, startTimeout, scanned, associationOver, receptionOver, transmissionOver, tick, takeLeaveIndication, takeStatusIndication, choose};
 ghost use Rattle.node.specs.Parts.{tablesOf, withTables, refusalOf, closed, scanRefusal, scanDecided, nothingReceived, dealtOn, leftAfter};
@@ -140,7 +140,7 @@ impl State {
 impl State {
     // What a decision writes to the table and the candidates.
     fn written(self, clear: bool, candidate: Move) -> State
-        ensures { λ r. ⌜ r ≡ moved candidate (barred clear self) ⌝ }
+        ensures { λ r. ⌜ r ≡ moved candidate (potentialCleared clear self) ⌝ }
     {
         if steps::writes(clear, candidate) {
             return self.with_tables(steps::written(self.tables(), clear, candidate));
@@ -176,7 +176,7 @@ impl State {
         }
     }
 
-    // Refusal 5: a count is above 16, polls left above 20, or an association has a stray index.
+    // Refusal 5: a count is above 16, polls left above 20, or an association has an index past the table.
     fn is_bad(self) -> bool
         ensures { λ r. ⌜ r ≡ bad self ⌝ }
     {
@@ -198,7 +198,7 @@ impl State {
         if self.awaited() != 2 {
             return false;
         }
-        tries::strays(self.table.count, self.candidates)
+        tries::past_table(self.table.count, self.candidates)
     }
 
     // 5, then another refusal unless the kind of outcome that a call goes with is awaited; 0 where the call is not turned down.

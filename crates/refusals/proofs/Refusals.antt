@@ -23,7 +23,7 @@ use Rattle.operation.specs.declared.Phase.the-variants.{Idle, Discovery, Rejoin
 use Rattle.operation.specs.declared.Decision.{Decision}
 use Rattle.exchange.specs.Exchange.{receiveStarted}
 use Rattle.node.specs.Looks.{finish}
-use Rattle.node.specs.Refusals.{refuse, strayIndex, bad, startOrRefusal, outcomeOrRefusal, otherOrRefusal}
+use Rattle.node.specs.Refusals.{refuse, indexPastTable, bad, startOrRefusal, outcomeOrRefusal, otherOrRefusal}
 use Rattle.node.specs.Calls.{startDiscovery, joinFrom, joinBy, startJoin, startSend, startPoll, startReceive, startTimeout, scanFailed, rejoinHeard, discovered, scanFound, scanListed, scanned, associationOver, goOn, after, receivedFor, receivedIn, receptionOver, afterLeave, sentIn, transmissionOver, tick, takeLeaveIndication, takeStatusIndication, choose}
 use Rattle.node.specs.Runs.{Call, discovery, join, send, poll, receive, timeout, scan, association, transmission, reception, elapsed, takeLeave, takeStatus, answer}
 use Rattle.node.specs.declared.State.{State}
@@ -165,7 +165,7 @@ answer-made s takeLeave = always-made s 0 _ refl
 answer-made s takeStatus = always-made s 0 _ refl
 
 lent-made : (t : ParentTimer) (ms : ℕ) (s : State) → LentOr t s (cond (bad s) 5 0) (lentTick t ms s)
-unfolding lentTick tick otherOrRefusal bad strayIndex
+unfolding lentTick tick otherOrRefusal bad indexPastTable
 lent-made t ms s = go (bad s) _ refl
   where
     go : (b : Bool) (a : Answer) → isRefused (a .step) ≡ false → LentOr t s (cond b 5 0) (cond b (turnedDown t s) (leaving (cond b (refuse 5 (withTimer t s)) a)))

@@ -37,7 +37,7 @@ use Rattle.operation.specs.declared.Decision.{Decision}
 use Rattle.operation.specs.Operation.{asking, isIdle, awaitsScan, awaitsAssociation}
 use Rattle.join.specs.Join.{failing, associating, resetNegotiation, storeCapabilities, joinStarted}
 use Rattle.rejoin.specs.Rejoin.{invalid, trying, tryRemembered, begun, rejoinStarted}
-use Rattle.node.specs.Looks.{withTable, entries, parent, next, broadcast, moved, barred, finish}
+use Rattle.node.specs.Looks.{withTable, entries, parent, next, broadcast, moved, potentialCleared, finish}
 use Rattle.node.specs.Refusals.{refuse, bad, startOrRefusal, outcomeOrRefusal, otherOrRefusal}
 use Rattle.steps.specs.Steps.{continuing}
 use Rattle.receptions.specs.Receptions.{noData}
@@ -124,7 +124,7 @@ module _ (s : State) where
   goOn-within c reset a h = carried c reset s _ (pollOn-drops s (parent s) (next s) (s .control) h)
 
   after-within : {m : ℕ} (c : Call) (t : Then) → suc (suc (still s (s .control .operation))) ≤ m → Within m c (after RejoinResponse t s)
-  unfolding after finish moved barred
+  unfolding after finish moved potentialCleared
   after-within c (Over a) h = goOn-within c false a (omega arith)
   after-within c (Announce t rejoin) h = carried c false s _ (drops s (asking (LeaveSend RejoinResponse rejoin) (Transmit t) (s .control)) (omega arith))
 
@@ -249,7 +249,7 @@ starts : (s : State) (d : Decision) → Drops 699 s d → Starts (finish false s
 starts s d h = record { fits = omega (arith, h .fits) }
 
 tryRemembered-drops : (s : State) (parent : Neighbor) (c : Control) → c .operation .scanned ≡ false → Drops 699 s (tryRemembered parent c)
-unfolding tryRemembered trying finish moved barred
+unfolding tryRemembered trying finish moved potentialCleared
 tryRemembered-drops s Absent c q = scanOrEnd-drops s InvalidRequest c (omega arith)
 tryRemembered-drops s (Entry p) c q = drops s (trying Stay NoNote p c) (omega (arith, rest-false (c .operation .scanned) (s .candidates .taken) q))
 
@@ -259,7 +259,7 @@ rejoinStarted-drops s r parent c =
     either (Drops 699 s) (invalid r (c .nlme)) (λ _. failing-drops s InvalidRequest c (omega arith)) (λ _. tryRemembered-drops s parent (begun r c) refl)
 
 joinStarted-drops : (s : State) (i : CapabilityInformation) (next : Neighbor) (c : Control) → Drops 699 s (joinStarted i next c)
-unfolding joinStarted associating finish moved barred
+unfolding joinStarted associating finish moved potentialCleared
 joinStarted-drops s i Absent c = failing-drops s NotPermitted (resetNegotiation c) (omega arith)
 joinStarted-drops s i (Entry e) c = drops s (associating false e (storeCapabilities i (resetNegotiation c))) (omega arith)
 

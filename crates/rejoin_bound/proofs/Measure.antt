@@ -23,7 +23,7 @@ use Rattle.operation.specs.Operation.{withNlme, withOperation, withPolls, scanA
 use Rattle.join.specs.Join.{failing, statusOf}
 use Rattle.rejoin.specs.Rejoin.{noResponse, trying, scanOrEnd, tryCandidate, tryNext, tryFailed, rejoined, responded, polling, unanswered, pollParent, answeredBy, pollOn, requestSent}
 use Rattle.tries.specs.Tries.{skipped, taking}
-use Rattle.node.specs.Looks.{parent, next, moved, barred, finish}
+use Rattle.node.specs.Looks.{parent, next, moved, potentialCleared, finish}
 use Rattle.node.specs.Refusals.{bad}
 use Rattle.node.specs.Calls.{scanned}
 use Rattle.node.specs.Runs.{scan}
@@ -129,14 +129,14 @@ module _ {m : ℕ} (s : State) where
   failing-drops st c h = drops s (failing st c) h
 
   pub scanOrEnd-drops : (st : NlmeJoinStatus) (c : Control) → 658 ≤ m → Drops m s (scanOrEnd st c)
-  unfolding scanOrEnd finish moved barred
+  unfolding scanOrEnd finish moved potentialCleared
   scanOrEnd-drops st c h =
       either (Drops m s) (leb (c .operation .scan .past) (c .operation .scan .first)) (λ _. failing-drops st c (omega arith))
       (λ _. drops s (asking RejoinScan (Scan (c .operation .scan)) (withOperation (scanAsked (c .operation)) c)) h)
 
   pub tryNext-drops : (st : NlmeJoinStatus) (next : Neighbor) (c : Control) → 1 ≤ m
       → (s .candidates .taken < 16 → 42 + rest (c .operation .scanned) (suc (s .candidates .taken)) ≤ m) → Drops m s (tryNext st next c)
-  unfolding tryNext tryCandidate trying finish moved barred taking
+  unfolding tryNext tryCandidate trying finish moved potentialCleared taking
   tryNext-drops st Absent c l h = failing-drops st c l
   tryNext-drops st (Entry e) c l h =
       drops-if s (tryCandidate e c) l
@@ -156,12 +156,12 @@ module _ {m : ℕ} (s : State) where
 
   pollParent-drops : (parent next : Neighbor) (c : Control) → (c .operation .«polls_left» ≡ 0 → ⊥) → suc (still s (c .operation)) ≤ m
       → Drops m s (pollParent parent next c)
-  unfolding pollParent polling finish moved barred
+  unfolding pollParent polling finish moved potentialCleared
   pollParent-drops Absent next c n h = unanswered-drops next c (omega arith)
   pollParent-drops (Entry p) next c n h = drops s (polling p c) (omega arith)
 
   answeredBy-drops : (a : RejoinResponseSlot) (parent next : Neighbor) (c : Control) → suc (still s (c .operation)) ≤ m → Drops m s (answeredBy a parent next c)
-  unfolding answeredBy responded rejoined finish moved barred
+  unfolding answeredBy responded rejoined finish moved potentialCleared
   answeredBy-drops (HasRejoinResponse r) parent next c h =
       either (Drops m s) (eqb (r .status) 0) (λ _. drops s (rejoined r (withNlme (noResponse (c .nlme)) c)) (omega arith))
       (λ _. tryFailed-drops (statusOf (r .status)) next (withNlme (noResponse (c .nlme)) c) (omega arith))

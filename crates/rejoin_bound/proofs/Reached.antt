@@ -27,8 +27,8 @@ use Rattle.nlme.specs.Nlme.{negotiationReset}
 use Rattle.received.specs.Received.{taughtBy, taught, acceptsLeave, leaveRequested, leaveHandled, handled, leftFor, leaveAnnounced}
 use Rattle.operation.specs.declared.Phase.the-variants.{Idle}
 use Rattle.rejoin.specs.Rejoin.{invalid, trying, scanOrEnd, tryRemembered, rejoinStarted, tryCandidate, tryNext, tryFailed, polling, unanswered, pollParent, answeredBy, pollOn, requestSent}
-use Rattle.node.specs.Looks.{moved, barred, finish}
-use Rattle.node.specs.Refusals.{strayIndex, bad, startOrRefusal, otherOrRefusal}
+use Rattle.node.specs.Looks.{moved, potentialCleared, finish}
+use Rattle.node.specs.Refusals.{indexPastTable, bad, startOrRefusal, otherOrRefusal}
 use Rattle.steps.specs.Steps.{continuing}
 use Rattle.node.specs.Calls.{joinBy, startJoin, heard, chosen, rejoinHeard, scanFound, scanListed, scanned, changed, after, receivedFor, receivedIn, receptionOver, afterLeave, sentIn, transmissionOver}
 use Rattle.node.specs.Runs.{Call, scan, transmission, reception}
@@ -151,7 +151,7 @@ abbrev calls : List Call
 calls = unansweredTry ++ (heardBeacons ∷ times 16 unansweredTry)
 
 pub bound-reached : BoundReached
-unfolding startJoin startOrRefusal bad strayIndex joinBy rejoinStarted invalid tryRemembered trying negotiationReset finish moved barred parentIn parentOf
+unfolding startJoin startOrRefusal bad indexPastTable joinBy rejoinStarted invalid tryRemembered trying negotiationReset finish moved potentialCleared parentIn parentOf
     transmissionOver sentIn requestSent pollOn answeredBy pollParent polling unanswered tryFailed scanOrEnd otherOrRefusal receptionOver receivedIn
     receivedFor taught taughtBy onEntries handled leaveHandled leaveRequested acceptsLeave changed after afterLeave leaveAnnounced leftFor continuing
     scanned scanListed scanFound rejoinHeard heard neighborsOf neighborBy entryOf present potentialParent chosen candidates eligible linkCost newest

@@ -7,7 +7,7 @@ use lib.ListN.{length}
 use Rattle.nib.specs.Neighbors.{entriesOf}
 use Rattle.nib.specs.declared.Neighbor.{Neighbor}
 use Rattle.neighbor_table.specs.NeighborTable.{onEntries}
-use Rattle.tries.specs.Tries.{taking, adoptedNext, joinedTried, barredTried}
+use Rattle.tries.specs.Tries.{taking, adoptedNext, joinedTried, potentialClearedTried}
 use Rattle.management.specs.Signals.{withLeaveIndication, withStatusIndication}
 use Rattle.management.specs.declared.RejoinNetwork.{RejoinNetwork}
 use Rattle.management.specs.declared.RejoinNetwork.the-variants.{Association, Orphan, NwkRejoin, ChannelChange}
@@ -55,8 +55,8 @@ moving AdoptNext t = withNextTaken (record { table = onEntries (adoptedNext (t .
 moving JoinTried t = record { table = onEntries (joinedTried (t .candidates)) (t .table); candidates = t .candidates }
 
 -- the candidate being tried is no longer a potential parent
-unfoldable pub barring : Bool → Tables → Tables
-barring b t = cond b (record { table = onEntries (barredTried (t .candidates)) (t .table); candidates = t .candidates }) t
+unfoldable pub clearingPotential : Bool → Tables → Tables
+clearingPotential b t = cond b (record { table = onEntries (potentialClearedTried (t .candidates)) (t .table); candidates = t .candidates }) t
 
 -- whether a decision writes anything to the table or the candidates
 abbrev pub writes : Bool → Move → Bool

@@ -2,7 +2,7 @@
 ghost use mathlib.Core.Path.{_≡_};
 ghost use Rattle.operation.specs.Operation.{withNlme};
 ghost use Rattle.nlme.specs.Fields.{withSignals};
-ghost use Rattle.steps.specs.Steps.{withNextTaken, moving, barring, writes, unawaited, ticked, leaveTaken, statusTaken};
+ghost use Rattle.steps.specs.Steps.{withNextTaken, moving, clearingPotential, writes, unawaited, ticked, leaveTaken, statusTaken};
 use management::LeaveIndicationSlot;
 use management::Signals;
 use management::StatusIndicationSlot;
@@ -50,10 +50,10 @@ fn moved(tables: Tables, candidate: Move) -> Tables
 }
 
 pub fn written(tables: Tables, clear: bool, candidate: Move) -> Tables
-    ensures { λ r. ⌜ r ≡ moving candidate (barring clear tables) ⌝ }
+    ensures { λ r. ⌜ r ≡ moving candidate (clearingPotential clear tables) ⌝ }
 {
     if clear {
-        let table = tries::bar_tried(tables.table, tables.candidates);
+        let table = tries::clear_tried(tables.table, tables.candidates);
         let candidates = tables.candidates;
         return moved(Tables { table, candidates }, candidate);
     }

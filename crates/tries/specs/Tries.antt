@@ -41,8 +41,8 @@ unfoldable pub nextIn : List NwkNeighbor → Candidates → Neighbor
 nextIn es c = seenIn es (entryAt es (nextIndex (length es) c))
 
 -- an index being tried or still to be tried is not below n (01, "When a call is turned down")
-unfoldable pub strays : ℕ → Candidates → Bool
-strays n c = some (λ i. not (ltb i n)) (drop (c .taken - 1) (itemsOf (c .list)))
+unfoldable pub pastTable : ℕ → Candidates → Bool
+pastTable n c = some (λ i. not (ltb i n)) (drop (c .taken - 1) (itemsOf (c .list)))
 
 -- Writing
 
@@ -59,8 +59,8 @@ unfoldable pub joinedTried : Candidates → List NwkNeighbor → List NwkNeighbo
 joinedTried c es = allCleared (marked (triedIndex c) es)
 
 -- the one being tried is no longer a potential parent
-unfoldable pub barredTried : Candidates → List NwkNeighbor → List NwkNeighbor
-barredTried c es = potentialClearedAt (triedIndex c) es
+unfoldable pub potentialClearedTried : Candidates → List NwkNeighbor → List NwkNeighbor
+potentialClearedTried c es = potentialClearedAt (triedIndex c) es
 
 -- What the code's search for an index stands for
 

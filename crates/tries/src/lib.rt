@@ -6,7 +6,7 @@ ghost use Rattle.lists.specs.Lists.{firstIndex};
 ghost use Rattle.nib.specs.Neighbors.{entriesOf};
 ghost use Rattle.neighbor_table.specs.NeighborTable.{onEntries};
 ghost use Rattle.candidates.specs.Candidates.{itemsOf};
-ghost use Rattle.tries.specs.Tries.{parentIn, triedIndex, triedIn, nextIndex, nextIn, strays, taking, adoptedNext, joinedTried, barredTried, within};
+ghost use Rattle.tries.specs.Tries.{parentIn, triedIndex, triedIn, nextIndex, nextIn, pastTable, taking, adoptedNext, joinedTried, potentialClearedTried, within};
 use candidates::CandidateList;
 use neighbor_table::adopt_parent;
 use neighbor_table::clear_beacon_fields;
@@ -92,8 +92,8 @@ pub fn parent_seen(table: NeighborTable) -> Neighbor
 pub fn tried(table: NeighborTable, candidates: Candidates) -> Neighbor
     ensures { λ r. ⌜ r ≡ triedIn (entriesOf table) candidates ⌝ }
 {
-    let index = tried_index(candidates);
-    seen(table, table.get(index))
+    let tried = tried_index(candidates);
+    seen(table, table.get(tried))
 }
 
 // The next candidate. An index past the table is skipped.
@@ -106,8 +106,8 @@ pub fn next(table: NeighborTable, candidates: Candidates) -> Neighbor
 }
 
 // Whether an index being tried or still to be tried is not below a count.
-pub fn strays(count: u8, candidates: Candidates) -> bool
-    ensures { λ r. ⌜ r ≡ strays count candidates ⌝ }
+pub fn past_table(count: u8, candidates: Candidates) -> bool
+    ensures { λ r. ⌜ r ≡ pastTable count candidates ⌝ }
 {
     let list = candidates.list;
     let length = in_use(list);
@@ -151,8 +151,8 @@ pub fn join_tried(table: NeighborTable, candidates: Candidates) -> NeighborTable
 }
 
 // The candidate being tried is no potential parent.
-pub fn bar_tried(table: NeighborTable, candidates: Candidates) -> NeighborTable
-    ensures { λ r. ⌜ r ≡ onEntries (barredTried candidates) table ⌝ }
+pub fn clear_tried(table: NeighborTable, candidates: Candidates) -> NeighborTable
+    ensures { λ r. ⌜ r ≡ onEntries (potentialClearedTried candidates) table ⌝ }
 {
     let index = tried_index(candidates);
     clear_potential_parent(table, index)

@@ -44,8 +44,8 @@ use Rattle.operation.specs.declared.Decision.{Decision}
 use Rattle.join.specs.Join.{joinStarted, associated}
 use Rattle.join.specs.declared.AssociationOutcome.{AssociationOutcome}
 use Rattle.rejoin.specs.Rejoin.{tryNext, pollOn, requestSent}
-use Rattle.node.specs.Looks.{withControl, entries, parent, tried, next, moved, barred, finish}
-use Rattle.node.specs.Refusals.{refuse, strayIndex, bad, startOrRefusal, outcomeOrRefusal, otherOrRefusal}
+use Rattle.node.specs.Looks.{withControl, entries, parent, tried, next, moved, potentialCleared, finish}
+use Rattle.node.specs.Refusals.{refuse, indexPastTable, bad, startOrRefusal, outcomeOrRefusal, otherOrRefusal}
 use Rattle.steps.specs.Steps.{continuing}
 use Rattle.receptions.specs.Receptions.{noData}
 use Rattle.node.specs.Calls.{withNode, startDiscovery, chosen, withChosen, joinFrom, joinBy, startJoin, startSend, startPoll, startReceive, startTimeout, heard, scanFailed, rejoinAmong, rejoinHeard, discovered, noConfirm, scanFound, scanListed, scanned, associationOver, goOn, taughtOn, receivedFor, receivedIn, receptionOver, sentIn, transmissionOver, saying, tick, takeLeaveIndication, takeStatusIndication}
@@ -175,7 +175,7 @@ module _ (n : ℕ) where
 
   -- the operation is over, and no candidate matters any more
   ending-good : (st : Step) {s t : State} → Alike n s t → Good n (finish false s (operation.ending st (s .control))) (finish false t (operation.ending st (t .control)))
-  unfolding finish moved barred
+  unfolding finish moved potentialCleared
   ending-good st a = good (alike (alike-control (ap (operation.inPhase phase.Idle) (a .control-same)) a) (λ h. absurd (false≢true h))) refl refl refl refl
 
   -- the node's own part of the state is replaced
@@ -188,13 +188,13 @@ module _ (n : ℕ) where
 -- a decision on candidates is carried out
 module _ (n : ℕ) (some : n ≡ 0 → ⊥) {s t : State} (a : Alike n s t) (c : Tries n s t) where
   module _ (b : Bool) (m : Move) where
-    written-same : sight n (moved m (barred b s)) ≡ sight n (moved m (barred b t))
+    written-same : sight n (moved m (potentialCleared b s)) ≡ sight n (moved m (potentialCleared b t))
     written-same =
         written-sight n some b m s (a .tidy-1) (c .ours-1)
         ∙ ap (writtenIn n b m) (alike-sight n a c)
         ∙ sym (written-sight n some b m t (a .tidy-2) (c .ours-2))
 
-    written-agrees : (d : Control) → (joins m ≡ true → live (d .operation .phase) ≡ false) → Agree n (withControl d (moved m (barred b s))) (withControl d (moved m (barred b t)))
+    written-agrees : (d : Control) → (joins m ≡ true → live (d .operation .phase) ≡ false) → Agree n (withControl d (moved m (potentialCleared b s))) (withControl d (moved m (potentialCleared b t)))
     written-agrees d ends =
         alike
         (record {
@@ -360,7 +360,7 @@ unfolding bad
 not-bad s h =
     ltb-false 16 (s .candidates .list .count)
     (third-false (ltb 16 (s .table .count)) (ltb 16 (s .control .nlme .«transmit_failures» .count)) (ltb 16 (s .candidates .list .count))
-    (ltb 16 (s .candidates .taken) || (ltb 20 (s .control .operation .«polls_left») || strayIndex s)) h)
+    (ltb 16 (s .candidates .taken) || (ltb 20 (s .control .operation .«polls_left») || indexPastTable s)) h)
 
 module _ (n : ℕ) where
   scanFailed-good : (p : Phase) {s t : State} → Agree n s t → Good n (scanFailed p s) (scanFailed p t)

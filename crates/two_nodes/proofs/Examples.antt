@@ -26,11 +26,11 @@ use Rattle.operation.specs.declared.Phase.the-variants as phase
 use Rattle.operation.specs.declared.RadioRequest.the-variants.{Scan, Associate, Transmit, Poll}
 use Rattle.operation.specs.declared.Step.{Step}
 use Rattle.operation.specs.declared.Step.the-variants.{Refused, Ask, Discovered, Joined, StatusTaken}
-use Rattle.node.specs.Looks.{entries, moved, barred, finish}
-use Rattle.node.specs.Refusals.{refuse, strayIndex, bad, startOrRefusal, otherOrRefusal}
+use Rattle.node.specs.Looks.{entries, moved, potentialCleared, finish}
+use Rattle.node.specs.Refusals.{refuse, indexPastTable, bad, startOrRefusal, otherOrRefusal}
 use Rattle.steps.specs.Steps.{continuing}
 use Rattle.node.specs.Calls.{startDiscovery, chosen, joinFrom, joinBy, startJoin, heard, rejoinHeard, discovered, scanFound, scanListed, scanned, changed, after, receivedFor, receivedIn, receptionOver, sentIn, transmissionOver, takeStatusIndication}
-use Rattle.tries.specs.Tries.{parentIn, triedIndex, skipped, nextIndex, nextIn, strays, taking, adoptedNext}
+use Rattle.tries.specs.Tries.{parentIn, triedIndex, skipped, nextIndex, nextIn, pastTable, taking, adoptedNext}
 use Rattle.neighbor_table.specs.NeighborTable.{found, parentOf, onEntries, learnt, marked, adopted, retained}
 use Rattle.candidates.specs.Candidates.{listOf, eligible, depthAt, candidates}
 use Rattle.candidates.specs.UpdateIds.{newer, newest}
@@ -241,7 +241,7 @@ record Computed : Type 0 where
   applied : run new (joining (foreign 1 ∷ own-7 ∷ [])) ≡ run new (joining (own-7 ∷ []))
 
 computed : Computed
-unfolding moved barred finish refuse strayIndex bad startOrRefusal otherOrRefusal startDiscovery chosen joinFrom joinBy startJoin heard rejoinHeard discovered scanFound scanListed scanned continuing changed after receivedFor receivedIn receptionOver sentIn transmissionOver takeStatusIndication parentIn triedIndex skipped nextIndex nextIn strays taking adoptedNext found parentOf onEntries learnt marked adopted retained eligible depthAt candidates newer newest potentialParent entryOf neighborBy present neighborsOf associating joinStarted statusOf invalid trying scanOrEnd tryRemembered rejoinStarted tryCandidate tryNext tryFailed responded polling pollParent answeredBy pollOn requestSent taughtBy taught rejoinResponded neighborLeft leaveHandled handled negotiationReset commandHeader linkCost shown flatMap
+unfolding moved potentialCleared finish refuse indexPastTable bad startOrRefusal otherOrRefusal startDiscovery chosen joinFrom joinBy startJoin heard rejoinHeard discovered scanFound scanListed scanned continuing changed after receivedFor receivedIn receptionOver sentIn transmissionOver takeStatusIndication parentIn triedIndex skipped nextIndex nextIn pastTable taking adoptedNext found parentOf onEntries learnt marked adopted retained eligible depthAt candidates newer newest potentialParent entryOf neighborBy present neighborsOf associating joinStarted statusOf invalid trying scanOrEnd tryRemembered rejoinStarted tryCandidate tryNext tryFailed responded polling pollParent answeredBy pollOn requestSent taughtBy taught rejoinResponded neighborLeft leaveHandled handled negotiationReset commandHeader linkCost shown flatMap
 computed =
     record {
       joins-past = refl;

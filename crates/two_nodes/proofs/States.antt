@@ -37,13 +37,13 @@ use Rattle.neighbor_table.proofs.Addressed.{mild-potential, taughtTo}
 use Rattle.candidates.specs.UpdateIds.{ofNetwork}
 use Rattle.candidates.specs.Candidates.{candidates, itemsOf, listOf}
 use Rattle.candidates.proofs.Laws.{few as few-candidates}
-use Rattle.tries.specs.Tries.{triedIndex, triedIn, skipped, nextIndex, nextIn, strays, taking, adoptedNext, joinedTried, barredTried}
+use Rattle.tries.specs.Tries.{triedIndex, triedIn, skipped, nextIndex, nextIn, pastTable, taking, adoptedNext, joinedTried, potentialClearedTried}
 use Rattle.operation.specs.Operation.{awaitsAssociation}
 use Rattle.operation.specs.declared.Control.{Control}
 use Rattle.operation.specs.declared.Move.{Move}
 use Rattle.operation.specs.declared.Move.the-variants.{Stay, TakeNext, AdoptNext, JoinTried}
-use Rattle.node.specs.Looks.{withTable, entries, parent, tried, next, takenNext, moved, barred}
-use Rattle.node.specs.Refusals.{strayIndex, bad}
+use Rattle.node.specs.Looks.{withTable, entries, parent, tried, next, takenNext, moved, potentialCleared}
+use Rattle.node.specs.Refusals.{indexPastTable, bad}
 use Rattle.node.specs.Calls.{chosen, withChosen, heard, taughtOn}
 use Rattle.received.specs.Received.{taughtBy, taught}
 use Rattle.node.specs.declared.State.{State}
@@ -150,40 +150,40 @@ module _ (n : ℕ) (f : List NwkNeighbor → List NwkNeighbor) (s : State) (long
 
 -- the candidate being tried is no longer a potential parent
 
-abbrev barredIn : ℕ → Bool → Sight → Sight
-barredIn n true v = record { list = changeRanked (ofNetwork n) withoutPotential (triedPlace v) (v .list); places = v .places; taken = v .taken }
-barredIn n false v = v
+abbrev potentialClearedIn : ℕ → Bool → Sight → Sight
+potentialClearedIn n true v = record { list = changeRanked (ofNetwork n) withoutPotential (triedPlace v) (v .list); places = v .places; taken = v .taken }
+potentialClearedIn n false v = v
 
 module _ (n : ℕ) (s : State) where
-  abbrev unbarred : List NwkNeighbor → List NwkNeighbor
-  unbarred = barredTried (s .candidates)
+  abbrev potential-kept : List NwkNeighbor → List NwkNeighbor
+  potential-kept = potentialClearedTried (s .candidates)
 
-  barred-long : length (unbarred (entries s)) ≡ length (entries s)
-  unfolding barredTried
-  barred-long = potential-long (triedIndex (s .candidates)) (entries s)
+  potential-cleared-long : length (potential-kept (entries s)) ≡ length (entries s)
+  unfolding potentialClearedTried
+  potential-cleared-long = potential-long (triedIndex (s .candidates)) (entries s)
 
-  barred-marks : marks n (unbarred (entries s)) ≡ marks n (entries s)
-  unfolding barredTried potentialClearedAt
-  barred-marks = marks-change (ofNetwork n) withoutPotential (λ e. refl) (triedIndex (s .candidates)) (entries s)
+  potential-cleared-marks : marks n (potential-kept (entries s)) ≡ marks n (entries s)
+  unfolding potentialClearedTried potentialClearedAt
+  potential-cleared-marks = marks-change (ofNetwork n) withoutPotential (λ e. refl) (triedIndex (s .candidates)) (entries s)
 
-  barred-shows : Tidy s → Ours n s → shows n (unbarred (entries s)) ≡ barredIn n true (sight n s) .list
-  unfolding barredTried potentialClearedAt
-  barred-shows d o = changed-shows n withoutPotential mild-potential (λ e. refl) (entries s) (triedIndex (s .candidates)) (triedPlace (sight n s)) (entries-few s d) (tried-placed n s o)
+  potential-cleared-shows : Tidy s → Ours n s → shows n (potential-kept (entries s)) ≡ potentialClearedIn n true (sight n s) .list
+  unfolding potentialClearedTried potentialClearedAt
+  potential-cleared-shows d o = changed-shows n withoutPotential mild-potential (λ e. refl) (entries s) (triedIndex (s .candidates)) (triedPlace (sight n s)) (entries-few s d) (tried-placed n s o)
 
-  barred-sight : (b : Bool) → Tidy s → Ours n s → sight n (barred b s) ≡ barredIn n b (sight n s)
-  unfolding barred
-  barred-sight true d o = changed-sight n unbarred s barred-long barred-marks (barred-shows d o)
-  barred-sight false d o = refl
+  potential-cleared-sight : (b : Bool) → Tidy s → Ours n s → sight n (potentialCleared b s) ≡ potentialClearedIn n b (sight n s)
+  unfolding potentialCleared
+  potential-cleared-sight true d o = changed-sight n potential-kept s potential-cleared-long potential-cleared-marks (potential-cleared-shows d o)
+  potential-cleared-sight false d o = refl
 
-  barred-tidy : (b : Bool) → Tidy s → Tidy (barred b s)
-  unfolding barred
-  barred-tidy true d = changed-tidy n unbarred s barred-long d
-  barred-tidy false d = d
+  potential-cleared-tidy : (b : Bool) → Tidy s → Tidy (potentialCleared b s)
+  unfolding potentialCleared
+  potential-cleared-tidy true d = changed-tidy n potential-kept s potential-cleared-long d
+  potential-cleared-tidy false d = d
 
-  barred-ours : (b : Bool) → Ours n s → Ours n (barred b s)
-  unfolding barred
-  barred-ours true o = changed-ours n unbarred s barred-long barred-marks o
-  barred-ours false o = o
+  potential-cleared-ours : (b : Bool) → Ours n s → Ours n (potentialCleared b s)
+  unfolding potentialCleared
+  potential-cleared-ours true o = changed-ours n potential-kept s potential-cleared-long potential-cleared-marks o
+  potential-cleared-ours false o = o
 
 -- the next candidate is taken
 
@@ -292,17 +292,17 @@ moved-ours n JoinTried s h o = absurd (false≢true (sym h))
 
 -- the writes of a decision
 abbrev pub writtenIn : ℕ → Bool → Move → Sight → Sight
-writtenIn n b m v = movedIn n m (barredIn n b v)
+writtenIn n b m v = movedIn n m (potentialClearedIn n b v)
 
 module _ (n : ℕ) (some : n ≡ 0 → ⊥) (b : Bool) (m : Move) (s : State) where
-  pub written-sight : Tidy s → Ours n s → sight n (moved m (barred b s)) ≡ writtenIn n b m (sight n s)
-  written-sight d o = moved-sight n some m (barred b s) (barred-tidy n s b d) (barred-ours n s b o) ∙ ap (movedIn n m) (barred-sight n s b d o)
+  pub written-sight : Tidy s → Ours n s → sight n (moved m (potentialCleared b s)) ≡ writtenIn n b m (sight n s)
+  written-sight d o = moved-sight n some m (potentialCleared b s) (potential-cleared-tidy n s b d) (potential-cleared-ours n s b o) ∙ ap (movedIn n m) (potential-cleared-sight n s b d o)
 
-  pub written-tidy : Tidy s → Tidy (moved m (barred b s))
-  written-tidy d = moved-tidy m (barred b s) (barred-tidy n s b d)
+  pub written-tidy : Tidy s → Tidy (moved m (potentialCleared b s))
+  written-tidy d = moved-tidy m (potentialCleared b s) (potential-cleared-tidy n s b d)
 
-  pub written-ours : joins m ≡ false → Ours n s → Ours n (moved m (barred b s))
-  written-ours h o = moved-ours n m (barred b s) h (barred-ours n s b o)
+  pub written-ours : joins m ≡ false → Ours n s → Ours n (moved m (potentialCleared b s))
+  written-ours h o = moved-ours n m (potentialCleared b s) h (potential-cleared-ours n s b o)
 
 -- candidates are chosen afresh
 
@@ -416,16 +416,16 @@ module _ (n : ℕ) (f : ReceivedFrame) (s : State) where
 
 -- REFUSAL 5
 
-none-stray : (m k : ℕ) (l : List ℕ) → All (λ i. i < m) l → some (λ i. not (ltb i m)) (drop k l) ≡ false
-none-stray m zero [] a = refl
-none-stray m zero (i ∷ l) a = rw (lt-ltb i m (a .0)) (none-stray m zero l (a .1))
-none-stray m (suc k) [] a = refl
-none-stray m (suc k) (i ∷ l) a = none-stray m k l (a .1)
+none-past-table : (m k : ℕ) (l : List ℕ) → All (λ i. i < m) l → some (λ i. not (ltb i m)) (drop k l) ≡ false
+none-past-table m zero [] a = refl
+none-past-table m zero (i ∷ l) a = rw (lt-ltb i m (a .0)) (none-past-table m zero l (a .1))
+none-past-table m (suc k) [] a = refl
+none-past-table m (suc k) (i ∷ l) a = none-past-table m k l (a .1)
 
-no-strays : (n : ℕ) (s : State) → Ours n s → strays (s .table .count) (s .candidates) ≡ false
-unfolding strays
-no-strays n s o =
-    none-stray (s .table .count) (s .candidates .taken - 1) (itemsOf (s .candidates .list))
+tried-within-table : (n : ℕ) (s : State) → Ours n s → pastTable (s .table .count) (s .candidates) ≡ false
+unfolding pastTable
+tried-within-table n s o =
+    none-past-table (s .table .count) (s .candidates .taken - 1) (itemsOf (s .candidates .list))
     (All-map (λ i. i < length (entries s)) (λ i. i < s .table .count) (λ i h. omega (arith, length-take (s .table .count) (s .table .entries))) (itemsOf (s .candidates .list)) (below n s o))
 
 -- where the counts are in range and the candidates of an association are the network's, it depends on the control part and on how many candidates were taken
@@ -433,8 +433,8 @@ abbrev pub badIn : Control → ℕ → Bool
 badIn c k = ltb 16 (c .nlme .«transmit_failures» .count) || (ltb 16 k || (ltb 20 (c .operation .«polls_left») || false))
 
 pub bad-is : (n : ℕ) (s : State) → Tidy s → (awaitsAssociation (s .control .operation .phase) ≡ true → Ours n s) → bad s ≡ badIn (s .control) (s .candidates .taken)
-unfolding bad strayIndex
-bad-is n s d o = rw (le-ltb 16 (s .table .count) (d .small), le-ltb 16 (s .candidates .list .count) (d .few), stray)
+unfolding bad indexPastTable
+bad-is n s d o = rw (le-ltb 16 (s .table .count) (d .small), le-ltb 16 (s .candidates .list .count) (d .few), past)
   where
-    stray : strayIndex s ≡ false
-    stray = split (awaitsAssociation (s .control .operation .phase)) (λ t. rw (t, no-strays n s (o t))) (λ t. rw t)
+    past : indexPastTable s ≡ false
+    past = split (awaitsAssociation (s .control .operation .phase)) (λ t. rw (t, tried-within-table n s (o t))) (λ t. rw t)

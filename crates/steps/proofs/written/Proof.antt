@@ -1,27 +1,27 @@
 -- `written` meets its contract. Assumes nothing.
-use Rattle.steps.specs.Steps.{barring}
+use Rattle.steps.specs.Steps.{clearingPotential}
 use borrow.Author.Needs.{needs}
 use Rattle.steps.proofs.written.Statement.{statement}
 use Rattle.steps.proofs.written.Tie as tie
 
-bar-tried-requires : tie.Need-bar-tried-requires
-bar-tried-requires c κs = search needs
+clear-tried-requires : tie.Need-clear-tried-requires
+clear-tried-requires c κs = search needs
 
 moved-requires : tie.Need-moved-requires
 moved-requires c κs = search needs
 
 returns : tie.Need-returns
-unfolding barring
-returns c = rw (c .moved .ensures, c .before .before .bar-tried .ensures, c .before .before .before .if1 .taken)
+unfolding clearingPotential
+returns c = rw (c .moved .ensures, c .before .before .clear-tried .ensures, c .before .before .before .if1 .taken)
 
 moved-requires-2 : tie.Need-moved-requires-2
 moved-requires-2 c κs = search needs
 
 returns-2 : tie.Need-returns-2
-unfolding barring
+unfolding clearingPotential
 returns-2 c = rw (c .moved2 .ensures, c .before .if1 .left)
 
 pub written-spec : {M : Type 1} → statement M
 written-spec =
     tie.close
-    (tie.spec bar-tried-requires moved-requires returns moved-requires-2 returns-2)
+    (tie.spec clear-tried-requires moved-requires returns moved-requires-2 returns-2)

@@ -2,8 +2,8 @@
 use mathlib.Core.Path.{sym, ap, _∙_}
 use mathlib.Core.Bool.{Bool, _&&_}
 use borrow.Author.Tests.{lt-ltb, le-ltb, eq-eqb, ne-eqb}
-use Rattle.tries.specs.Tries.{strays}
-use Rattle.node.specs.Refusals.{bad, strayIndex}
+use Rattle.tries.specs.Tries.{pastTable}
+use Rattle.node.specs.Refusals.{bad, indexPastTable}
 use borrow.Author.Needs.{needs}
 use Rattle.node.proofs.State.is_bad.Statement.{statement}
 use Rattle.node.proofs.State.is_bad.Tie as tie
@@ -32,21 +32,21 @@ awaited-requires : tie.Need-awaited-requires
 awaited-requires c κs = search needs
 
 returns-6 : tie.Need-returns-6
-unfolding bad strayIndex
+unfolding bad indexPastTable
 returns-6 c =
     let s = c .before .before .before .before .before .before .before .before .before .before .before .before .args .self in
     rw (le-ltb 16 (s .table .count) (c .before .before .before .before .before .before .before .before .before .before .if1 .left), le-ltb 16 (s .control .nlme .«transmit_failures» .count) (c .before .before .before .before .before .before .before .before .if2 .left), le-ltb 16 (s .candidates .list .count) (c .before .before .before .before .before .before .if3 .left), le-ltb 16 (s .candidates .taken) (c .before .before .before .before .if4 .left), le-ltb 20 (s .control .operation .«polls_left») (c .before .before .if5 .left))
-    (ap (λ (b : Bool). b && strays (s .table .count) (s .candidates)) (sym (ne-eqb _ _ (λ e. c .if6 .taken (c .before .awaited .ensures ∙ e)))))
+    (ap (λ (b : Bool). b && pastTable (s .table .count) (s .candidates)) (sym (ne-eqb _ _ (λ e. c .if6 .taken (c .before .awaited .ensures ∙ e)))))
 
-strays-requires : tie.Need-strays-requires
-strays-requires c κs = search needs
+past-table-requires : tie.Need-past-table-requires
+past-table-requires c κs = search needs
 
 returns-7 : tie.Need-returns-7
-unfolding bad strayIndex
+unfolding bad indexPastTable
 returns-7 c =
     let s = c .before .before .before .before .before .before .before .before .before .before .before .before .before .args .self in
     rw (le-ltb 16 (s .table .count) (c .before .before .before .before .before .before .before .before .before .before .before .if1 .left), le-ltb 16 (s .control .nlme .«transmit_failures» .count) (c .before .before .before .before .before .before .before .before .before .if2 .left), le-ltb 16 (s .candidates .list .count) (c .before .before .before .before .before .before .before .if3 .left), le-ltb 16 (s .candidates .taken) (c .before .before .before .before .before .if4 .left), le-ltb 20 (s .control .operation .«polls_left») (c .before .before .before .if5 .left))
-    (c .strays .ensures ∙ ap (λ (b : Bool). b && strays (s .table .count) (s .candidates)) (sym (eq-eqb _ _ (sym (c .before .before .awaited .ensures) ∙ c .before .if6 .left))))
+    (c .past-table .ensures ∙ ap (λ (b : Bool). b && pastTable (s .table .count) (s .candidates)) (sym (eq-eqb _ _ (sym (c .before .before .awaited .ensures) ∙ c .before .if6 .left))))
 
 pub is-bad-spec : {M : Type 1} → statement M
 is-bad-spec =
@@ -59,5 +59,5 @@ is-bad-spec =
     returns-5
     awaited-requires
     returns-6
-    strays-requires
+    past-table-requires
     returns-7)

@@ -1,5 +1,5 @@
 -- `State::tick_parent_timeout` meets its contract. Assumes nothing.
-use Rattle.node.specs.Looks.{moved, barred, finish}
+use Rattle.node.specs.Looks.{moved, potentialCleared, finish}
 use Rattle.node.specs.Refusals.{otherOrRefusal}
 use Rattle.node.specs.Calls.{tick}
 use borrow.Author.Needs.{needs}
@@ -16,7 +16,7 @@ always-requires : tie.Need-always-requires
 always-requires c κs = search needs
 
 returns : tie.Need-returns
-unfolding tick otherOrRefusal finish moved barred
+unfolding tick otherOrRefusal finish moved potentialCleared
 returns c = rw (c .always .ensures, c .before .ticked .ensures, c .before .before .parent .ensures)
 
 pub tick-parent-timeout-spec : {M : Type 1} → statement M
