@@ -1,3 +1,4 @@
+-- The laws that the proofs of `candidates` share.
 pub mod NewestNext
 pub mod Chosen
 pub mod Listed

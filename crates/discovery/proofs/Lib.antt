@@ -1,1 +1,2 @@
+-- The laws that the proofs of `discovery` share.
 pub mod Scans

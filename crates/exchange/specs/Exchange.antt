@@ -1,4 +1,4 @@
--- Sends, polls, negotiation and keepalive outside a rejoin (01, "Supervision record"; Zigbee 3.6.3, 3.6.6 and 3.6.10). `parent` is the present parent, seen with
+-- Sends, polls, receives, negotiation and keepalive outside a rejoin (01, "Supervision record"; Zigbee 3.6.3, 3.6.6 and 3.6.10). `parent` is the present parent, seen with
 -- the IEEE address known of its short address.
 use mathlib.Core.Bool.{Bool, true, false, cond}
 use lib.Dec.{eqb}

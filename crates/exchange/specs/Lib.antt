@@ -1,1 +1,2 @@
+-- The definitions of `exchange`.
 pub mod Exchange

@@ -1,1 +1,2 @@
+-- The definitions of `join`.
 pub mod Join

@@ -1,1 +1,2 @@
+-- The definitions of `lent_tick`.
 pub mod LentTick

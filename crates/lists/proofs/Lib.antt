@@ -1,3 +1,4 @@
+-- The laws that the proofs of `lists` share.
 pub mod Lists
 pub mod Conditions
 pub mod First

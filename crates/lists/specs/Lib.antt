@@ -1,1 +1,2 @@
+-- The definitions of `lists`.
 pub mod Lists

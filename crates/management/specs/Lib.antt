@@ -1,1 +1,2 @@
+-- The definitions of `management`.
 pub mod Signals

@@ -1,1 +1,2 @@
+-- The laws that the proofs of `marked_cases` share.
 pub mod MarkedCases

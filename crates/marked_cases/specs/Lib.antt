@@ -1,1 +1,2 @@
+-- The definitions of `marked_cases`.
 pub mod MarkedCases

@@ -145,7 +145,7 @@ marked =
 abbrev pub Hold : List Case → Type 0
 Hold cs = All (λ c. answer (c .asked) ≡ c .expected) cs
 
--- the printed example of the yard list
+-- the printed example of the yard list, by the fields that the choice reads
 abbrev pub yard : List NwkNeighbor
 yard =
     entry 0xaa 0 true true true 25 3

@@ -1,1 +1,2 @@
+-- The definitions of `mlme`.
 pub mod Mlme

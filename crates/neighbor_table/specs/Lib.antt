@@ -1,1 +1,2 @@
+-- The definitions of `neighbor_table`.
 pub mod NeighborTable

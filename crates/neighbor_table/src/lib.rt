@@ -223,7 +223,7 @@ pub fn mark_parent(table: NeighborTable, index: u8) -> NeighborTable
     )
 }
 
-// The entry at an index is the parent, and all others are none.
+// The entry at an index is PARENT, and all others are NONE; an index past the table changes nothing.
 pub fn adopt_parent(table: NeighborTable, index: u8) -> NeighborTable
     ensures { λ r. ⌜ r ≡ onEntries (adopted index) table ⌝ }
 {

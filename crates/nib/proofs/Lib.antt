@@ -1,1 +1,2 @@
+-- The laws that the proofs of `nib` share.
 pub mod Tables

@@ -1,2 +1,3 @@
+-- The definitions of `nib`.
 pub mod Identifiers
 pub mod Neighbors

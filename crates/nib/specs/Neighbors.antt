@@ -27,7 +27,7 @@ deviceType address = cond (eqb address 0x0000) Coordinator Router
 abbrev pub entriesOf : NeighborTable → List NwkNeighbor
 entriesOf t = take (t .count) (t .entries)
 
--- what an unused slot holds: zeros, `false` and the first variant, which is also what a read past the end of such a list gives
+-- what an unused slot holds: zeros, `false` and the first variant, which is also what a read past the end of a list of entries gives
 abbrev pub blank : NwkNeighbor
 blank =
     record {

@@ -1,2 +1,3 @@
+-- The definitions of `nlme`.
 pub mod Fields
 pub mod Nlme

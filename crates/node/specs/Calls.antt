@@ -67,7 +67,7 @@ deciding s d = finish false s d
 
 -- Discovery
 
--- the start of a discovery (Zigbee 3.2.2.3)
+-- the start of a discovery (01, "When a call is turned down"; Zigbee 3.2.2.3)
 unfoldable pub startDiscovery : ScanRange → State → Answer
 startDiscovery r s = startOrRefusal s (deciding s (asking phase.Discovery (Scan r) (s .control)))
 
@@ -114,7 +114,7 @@ startReceive s = startOrRefusal s (deciding s (receiveStarted (s .control)))
 unfoldable pub startTimeout : Bool → State → Answer
 startTimeout keepalive s = startOrRefusal s (deciding s (timeoutStarted keepalive (parent s) (s .control)))
 
--- The outcome of a scan: after 5 and 2, a failure; then 3 above 27 descriptors, then 4 above 16 short-addressed ones
+-- The outcome of a scan (01, "Neighbour entry", "When a call is turned down"): after 5 and 2, a failure; then 3 above 27 descriptors, then 4 above 16 short-addressed ones
 
 -- the table made from the scan (01, "Neighbour entry")
 unfoldable pub heard : List PanDescriptor → State → State
@@ -170,7 +170,7 @@ scanned o s =
     (cond (o .failed) (noConfirm (scanFailed (s .control .operation .phase) s)) (scanListed o s))
     (noConfirm (refuse 2 s)))
 
--- The outcome of an association
+-- The outcome of an association (01, "Join request and confirm")
 
 unfoldable pub associationOver : AssociationOutcome → State → Answer
 associationOver o s =
@@ -221,13 +221,14 @@ receivedIn (phase.LeaveSend p r) o s = refuse 2 s
 unfoldable pub receptionOver : ReceptionOutcome → State → Answer
 receptionOver o s = otherOrRefusal s (receivedIn (s .control .operation .phase) o s)
 
--- The outcome of a transmission: 5; a phase that awaits no such outcome gives 2
+-- The outcome of a transmission (01, "Received frame", "Supervision record"): 5; a phase that awaits no such outcome gives 2
 
--- after the announcement of a leave; without the rejoin bit the table is cleared and what lies outside this part is reset
+-- after the announcement of a leave; without the rejoin bit the table is cleared
 unfoldable pub afterLeave : Bool → State → State
 afterLeave rejoin s =
     cond rejoin (withNode (leaveAnnounced true (s .control .nlme)) s) (withTable (tableOf []) (withNode (leaveAnnounced false (s .control .nlme)) s))
 
+-- a leave announced without the rejoin bit has the reset note: what lies outside this part is reset
 unfoldable pub sentIn : Phase → Bool → State → Answer
 sentIn phase.RejoinSend ok s = deciding s (requestSent ok (parent s) (next s) (s .control))
 sentIn phase.DataSend ok s = deciding s (dataSent ok (parent s) (s .control))
@@ -242,16 +243,16 @@ sentIn (phase.Reception p) ok s = refuse 2 s
 unfoldable pub transmissionOver : Bool → State → Answer
 transmissionOver ok s = otherOrRefusal s (sentIn (s .control .operation .phase) ok s)
 
--- The tick, the takings and the choice of candidates
+-- The tick, the takings (01, "Supervision record") and the choice of candidates (01, "Candidate list")
 
 abbrev pub saying : Step → State → Answer
 saying st s = record { state = s; reset = false; note = NoNote; step = st; «polls_used» = 0 }
 
-abbrev pub clockedBy : NlmeTicked → State → Answer
-clockedBy t s = saying (Expired (t .expired)) (withNode (t .nlme) s)
+abbrev pub tickAnswer : NlmeTicked → State → Answer
+tickAnswer t s = saying (Expired (t .expired)) (withNode (t .nlme) s)
 
 unfoldable pub tick : ℕ → State → Answer
-tick elapsed s = otherOrRefusal s (clockedBy (nlmeTicked (parent s) elapsed (s .control .nlme)) s)
+tick elapsed s = otherOrRefusal s (tickAnswer (nlmeTicked (parent s) elapsed (s .control .nlme)) s)
 
 -- "Each indication slot keeps the newest value until taken" (Zigbee 3.2.2.19 and 3.2.2.32)
 unfoldable pub takeLeaveIndication : State → Answer

@@ -29,6 +29,7 @@ withTables t s = record { control = s .control; table = t .table; candidates = t
 abbrev pub refusalOf : Bool → ℕ → State → ℕ
 refusalOf fits k s = cond (bad s) 5 (cond fits 0 k)
 
+-- the answer, or the refusal with a number other than 0
 abbrev pub closed : ℕ → State → Answer → Answer
 closed k s a = cond (eqb k 0) a (refuse k s)
 

@@ -37,6 +37,6 @@ startOrRefusal s a = cond (bad s) (refuse 5 s) (cond (isIdle (s .control .operat
 unfoldable pub outcomeOrRefusal : Bool → State → Answer → Answer
 outcomeOrRefusal awaited s a = cond (bad s) (refuse 5 s) (cond awaited a (refuse 2 s))
 
--- a tick or a taking: 5 only
+-- a tick or a taking: 5 only. The outcomes of a reception and of a transmission have their 2 in the answer
 unfoldable pub otherOrRefusal : State → Answer → Answer
 otherOrRefusal s a = cond (bad s) (refuse 5 s) a

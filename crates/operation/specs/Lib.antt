@@ -1,1 +1,2 @@
+-- The definitions of `operation`.
 pub mod Operation

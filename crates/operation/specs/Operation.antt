@@ -1,4 +1,4 @@
--- The operation under way with some fields replaced, and the common forms of a decision (01, "What must change shape": "Awaited radio calls become a request and a
+-- The operation under way with some fields replaced, which outcome it awaits, and the common forms of a decision (01, "What must change shape": "Awaited radio calls become a request and a
 -- later outcome").
 use Prim.Native.Nat.{ℕ, _-_}
 use mathlib.Core.Bool.{Bool, true, false}

@@ -1,1 +1,2 @@
+-- The definitions of `parent_timer`.
 pub mod Timer

@@ -1,1 +1,2 @@
+-- The definitions of `received`.
 pub mod Received

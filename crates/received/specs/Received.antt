@@ -55,7 +55,7 @@ rejoinSignalled r n = withSignals (withRejoinResponse (HasRejoinResponse r) (n .
 unfoldable pub rejoinResponded : RejoinResponse → Nlme → Nlme
 rejoinResponded r n = rejoinSignalled r (cond (eqb (r .status) 0) (withNib (withAddress (r .«network_address») (n .nib)) n) n)
 
--- "A timeout response uses up the pending index; with status 0 and a pending index it stores both and restarts the timer"; every one fills its slot,
+-- "A timeout response uses up the pending index; with status 0 and a pending index it stores both and restarts the timer" (both: parent information and timeout index); every one fills its slot,
 -- asked for or not (`handle_nwk_command` of the source; Zigbee 3.6.10.2 and 3.6.10.3)
 abbrev pub timeoutSignalled : EndDeviceTimeoutResponse → Nlme → Nlme
 timeoutSignalled r n = withSignals (withTimeoutResponse (HasTimeoutResponse r) (n .signals)) (withPending 0xff n)
@@ -91,7 +91,7 @@ acceptsLeave nib destination byParent =
     && ltb (destination .0) 0xfff8
     && cond (bit 1 (nib .«capability_information» .0)) (nib .«leave_request_allowed») byParent
 
--- `announce_leave` (Zigbee 3.6.1.10.1): a router broadcasts, an end device tells its parent with the children bit 0
+-- `announce_leave` (Zigbee 3.6.1.10.1): a router broadcasts, an end device tells its parent with the remove children bit 0
 abbrev pub leaveTo : Nlme → ShortAddress → OptionalIeee → Bool → Bool → Transmission
 leaveTo n to ieee rejoin children = transmission n to (Leave (commandHeader n to ieee true) rejoin children)
 

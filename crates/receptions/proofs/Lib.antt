@@ -1,1 +1,2 @@
+-- The laws that the proofs of `receptions` share.
 pub mod Phases

@@ -1,1 +1,2 @@
+-- The definitions of `receptions`.
 pub mod Receptions

@@ -28,6 +28,7 @@ noData SinglePoll = PollNothing
 noData SingleReceive = PollMacError
 noData (TimeoutResponse keepalive) = PollNothing
 
+-- in any other phase the outcome is turned down, and this is not looked at
 abbrev pub noDataIn : Phase → PollAnswer
 noDataIn (phase.Reception p) = noData p
 noDataIn phase.Idle = PollNothing

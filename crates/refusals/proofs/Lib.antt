@@ -1,2 +1,3 @@
+-- The laws that the proofs of `refusals` share.
 pub mod Decisions
 pub mod Refusals

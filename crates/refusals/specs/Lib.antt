@@ -1,1 +1,2 @@
+-- The definitions of `refusals`.
 pub mod Statement

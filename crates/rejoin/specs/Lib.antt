@@ -1,1 +1,2 @@
+-- The definitions of `rejoin`.
 pub mod Rejoin

@@ -25,7 +25,7 @@ use operation::Step;
 // The polls of one try.
 const REJOIN_RESPONSE_POLL_RETRIES: u8 = 20;
 
-// Whether the request is turned down: with no address of this device's own, or for another network than the remembered one.
+// Whether the answer is InvalidRequest: with no address of this device's own, or for another network than the remembered one.
 fn is_invalid(request: NlmeJoinRequest, nlme: Nlme) -> bool
     ensures { λ r. ⌜ r ≡ invalid request nlme ⌝ }
 {

@@ -1,2 +1,3 @@
+-- The definitions of `rejoin_bound`.
 pub mod Bound
 pub mod Polls

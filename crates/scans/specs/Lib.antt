@@ -1,1 +1,2 @@
+-- The definitions of `scans`.
 pub mod Scans

@@ -1,1 +1,2 @@
+-- The laws that the proofs of `starts` share.
 pub mod Phases

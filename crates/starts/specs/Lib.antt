@@ -1,1 +1,2 @@
+-- The definitions of `starts`.
 pub mod Starts

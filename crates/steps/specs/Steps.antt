@@ -1,5 +1,5 @@
 -- What a call decides by what is awaited, and what a decision writes to the table and the candidates (01, "Join request and confirm", "Received frame",
--- "Supervision record", "When a call is turned down").
+-- "Supervision record", "When a call is turned down"). What a call promises is defined in node/specs; these are its parts as the code below the calls has them.
 use Prim.Native.Nat.{ℕ}
 use mathlib.Core.Bool.{Bool, true, false, cond, not}
 use lib.Dec.{eqb}
@@ -102,7 +102,7 @@ scanOverIn (phase.Reception p) failed x c = unawaited c
 abbrev pub scanOver : Bool → Neighbor → Control → Decision
 scanOver failed x c = scanOverIn (c .operation .phase) failed x c
 
--- what a poll was for goes on: a single poll or receive answers, a rejoin or a negotiation polls on
+-- what a poll was for goes on: a single poll or receive answers; a rejoin, a negotiation or a keepalive polls on
 unfoldable pub continuing : Purpose → PollAnswer → Neighbor → Neighbor → Control → Decision
 continuing RejoinResponse a p x c = pollOn p x c
 continuing SinglePoll a p x c = pollOver a c
@@ -157,11 +157,11 @@ leavesNetwork (phase.TimeoutSend k) = false
 leavesNetwork (phase.Reception u) = false
 
 -- the tick and the takings
-abbrev pub clocked : NlmeTicked → Control → Decision
-clocked n c = telling (Expired (n .expired)) (withNlme (n .nlme) c)
+abbrev pub tickDecision : NlmeTicked → Control → Decision
+tickDecision n c = telling (Expired (n .expired)) (withNlme (n .nlme) c)
 
 abbrev pub ticked : ℕ → Neighbor → Control → Decision
-ticked elapsed p c = clocked (nlmeTicked p elapsed (c .nlme)) c
+ticked elapsed p c = tickDecision (nlmeTicked p elapsed (c .nlme)) c
 
 abbrev pub leaveTaken : Control → Decision
 leaveTaken c =

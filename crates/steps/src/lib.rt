@@ -21,7 +21,7 @@ pub struct Tables {
     pub candidates: Candidates,
 }
 
-// What a decision writes.
+// The next candidate is taken.
 fn take_next(tables: Tables) -> Tables
     ensures { λ r. ⌜ r ≡ withNextTaken tables ⌝ }
 {
@@ -49,6 +49,7 @@ fn moved(tables: Tables, candidate: Move) -> Tables
     }
 }
 
+// What a decision writes.
 pub fn written(tables: Tables, clear: bool, candidate: Move) -> Tables
     ensures { λ r. ⌜ r ≡ moving candidate (clearingPotential clear tables) ⌝ }
 {

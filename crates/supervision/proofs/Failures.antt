@@ -10,7 +10,7 @@ use lib.ListN.{length, drop, getD, set, replicate, length-append, length-set, le
 use Rattle.lists.specs.Lists.{over}
 use Rattle.lists.proofs.Lists.{over-snoc}
 use Rattle.lists.proofs.Pairs.{over-set}
-use Rattle.supervision.specs.Failures.{blankPair, failuresOf, countedOnce, oneMore, roomy, pairPushed, countedAt}
+use Rattle.supervision.specs.Failures.{blankPair, failuresOf, countedOnce, oneMore, withRoom, pairPushed, countedAt}
 use Rattle.supervision.specs.declared.TransmitFailure.{TransmitFailure}
 use Rattle.supervision.specs.declared.Recorded.{Recorded}
 
@@ -28,8 +28,8 @@ count-of l k h =
     }
 
 -- there is room
-pub roomy-few : (l : List TransmitFailure) → length l ≤ 16 → length (roomy l) < 16
-roomy-few l h = go (ltb (length l) 16) refl
+pub room-few : (l : List TransmitFailure) → length l ≤ 16 → length (withRoom l) < 16
+room-few l h = go (ltb (length l) 16) refl
   where
     go : (b : Bool) → ltb (length l) 16 ≡ b → length (cond b l (drop 1 l)) < 16
     go true e = ltb-true (length l) 16 e

@@ -1,2 +1,3 @@
+-- The laws that the proofs of `supervision` share.
 pub mod Periods
 pub mod Failures

@@ -1,4 +1,4 @@
--- The count of failed sends to each neighbour (01, "Supervision record"; Zigbee 3.6.3.7).
+-- The pairs of short address and failure count (01, "Supervision record"; Zigbee 3.6.3.7).
 use Prim.Native.Nat.{ℕ, _+_, min}
 use mathlib.Core.Bool.{Bool, true, false, cond}
 use mathlib.Core.List.{List, [], _∷_, _++_}
@@ -39,12 +39,12 @@ abbrev pub countOf : ShortAddress → List TransmitFailure → ℕ
 countOf a l = getD l (firstIndex (ofAddress a) l) blankPair .count
 
 -- the pairs with room for one more: of 16 the oldest, which is the first, goes
-abbrev pub roomy : List TransmitFailure → List TransmitFailure
-roomy l = cond (ltb (length l) 16) l (drop 1 l)
+abbrev pub withRoom : List TransmitFailure → List TransmitFailure
+withRoom l = cond (ltb (length l) 16) l (drop 1 l)
 
 -- a new pair comes last
 abbrev pub added : ShortAddress → List TransmitFailure → List TransmitFailure
-added a l = roomy l ++ (record { address = a; count = 1 } ∷ [])
+added a l = withRoom l ++ (record { address = a; count = 1 } ∷ [])
 
 -- one more failed send to an address, and how many there are then
 unfoldable pub recorded : TransmitFailures → ShortAddress → Recorded
@@ -54,7 +54,7 @@ recorded f a =
       total = oneMore (countOf a (pairsOf f));
     }
 
--- the pairs without that of an address, as after a send that succeeded
+-- the pairs without the first of an address, as after a send that succeeded
 unfoldable pub pairRemoved : TransmitFailures → ShortAddress → TransmitFailures
 pairRemoved f a = failuresOf (removeFirst (ofAddress a) (pairsOf f))
 

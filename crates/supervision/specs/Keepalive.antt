@@ -8,7 +8,7 @@ use Rattle.supervision.specs.declared.OptionalPeriod.the-variants.{NoPer
 use Rattle.supervision.specs.declared.KeepaliveMethod.{KeepaliveMethod}
 use Rattle.supervision.specs.declared.KeepaliveMethod.the-variants.{MacDataPoll, TimeoutRequest, NoKeepalive}
 
--- the interval between keepalives in milliseconds: a third of the timeout
+-- the interval between keepalives in milliseconds: a third of the timeout, rounded down
 unfoldable pub keepaliveIntervalMs : ℕ → OptionalPeriod
 keepaliveIntervalMs timeout = mapPeriod (λ ms. ms / 3) (negotiatedTimeoutMs timeout)
 
@@ -31,6 +31,6 @@ periodFor MacDataPoll p = p
 periodFor TimeoutRequest p = NoPeriod
 periodFor NoKeepalive p = NoPeriod
 
--- the interval between polls in milliseconds
+-- the interval between polls in milliseconds, none where polls are not the keepalive
 unfoldable pub negotiatedPollIntervalMs : ℕ → ℕ → OptionalPeriod
 negotiatedPollIntervalMs timeout information = periodFor (keepaliveMethod timeout information) (keepaliveIntervalMs timeout)

@@ -1,3 +1,4 @@
+-- The definitions of `supervision`.
 pub mod Timeouts
 pub mod Keepalive
 pub mod Failures

@@ -5,7 +5,7 @@ ghost use lib.ListN.{length};
 ghost use Rattle.lists.specs.Lists.{firstIndex, removeAt};
 ghost use Rattle.supervision.specs.Timeouts.{timeoutSeconds, negotiatedTimeoutMs, refreshed};
 ghost use Rattle.supervision.specs.Keepalive.{keepaliveIntervalMs, offered, keepaliveMethod, negotiatedPollIntervalMs};
-ghost use Rattle.supervision.specs.Failures.{pairsOf, failuresOf, ofAddress, oneMore, roomy, pairPushed, countedAt, recorded, pairRemoved, transmitFailed};
+ghost use Rattle.supervision.specs.Failures.{pairsOf, failuresOf, ofAddress, oneMore, withRoom, pairPushed, countedAt, recorded, pairRemoved, transmitFailed};
 use nib::ShortAddress;
 use parent_timer::ParentTimer;
 
@@ -111,7 +111,7 @@ pub fn negotiated_poll_interval_ms(end_device_timeout: u8, parent_information: u
 
 pub const MAX_PARENT_TRANSMIT_FAILURES: u8 = 3;
 
-// A neighbour, and how many sends to it failed since the last that succeeded.
+// A neighbour, and how many data sends through it failed since the last that succeeded.
 pub struct TransmitFailure {
     pub address: ShortAddress,
     pub count: u8,
@@ -221,7 +221,7 @@ fn count_at(failures: TransmitFailures, place: u8) -> Recorded
 
 // The pairs with room for one more: of 16 the oldest goes.
 fn with_room(failures: TransmitFailures) -> TransmitFailures
-    ensures { λ r. ⌜ r ≡ failuresOf (roomy (pairsOf failures)) ⌝ }
+    ensures { λ r. ⌜ r ≡ failuresOf (withRoom (pairsOf failures)) ⌝ }
 {
     let used = in_use(failures);
     if used < 16 {

@@ -40,11 +40,11 @@ sameText (x ∷ xs) (y ∷ ys) = eqb x y && sameText xs ys
 unfoldable pub digitOf : ℕ → ℕ
 digitOf b = cond (leb 48 b && leb b 57) (b - 48) (cond (leb 97 b && leb b 102) (b - 87) 16)
 
--- the value of digits in a base, after a front of value v
+-- the value of digits in a base, after digits of value v
 abbrev pub valueFrom : ℕ → ℕ → List ℕ → ℕ
 valueFrom base v f = foldl (λ w b. w * base + digitOf b) v f
 
--- the number that the digits in a base make after a front of value v; none if a byte is no digit, or if it is above limit
+-- the number that the digits in a base make after digits of value v; none if a byte is no digit, or if it is above limit
 unfoldable pub numberFrom : ℕ → ℕ → ℕ → List ℕ → OptionalNumber
 numberFrom base limit v f =
     cond (every (λ b. ltb (digitOf b) base) f && leb (valueFrom base v f) limit) (Number (valueFrom base v f)) NoNumber

@@ -1,3 +1,4 @@
+-- The laws that the proofs of `trace` share.
 pub mod Lists
 pub mod Padded
 pub mod Named

@@ -1,3 +1,4 @@
+-- The definitions of `trace`.
 pub mod Word
 pub mod Kind
 pub mod Lines

@@ -991,7 +991,7 @@ fn number_after(number: u32) -> u32
 }
 
 impl Run {
-    // Answers a line; what is printed is written at the start of a buffer, where it fits.
+    // Answers a line; what is printed is written at the start of a buffer.
     pub fn answer_line(self, line: &[u8], out: &mut [u8; 16384]) -> Run
         ensures { λ r. ⌜ (r ≡ after (now (line .entry)) self) × (now (out .exit) ≡ over (now (out .entry)) (printed (now (line .entry)) self)) ⌝ }
     {

@@ -1,2 +1,3 @@
+-- The definitions of `trace_calls`.
 pub mod TraceCalls
 pub mod Steps

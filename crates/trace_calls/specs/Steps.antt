@@ -66,7 +66,7 @@ heardOf l n TakeStatus = record { missing = 0; outcome = record { failed = true;
 heardOf l n (Choose x y z) = record { missing = 0; outcome = record { failed = true; list = unheard 0 } }
 heardOf l n PrintState = record { missing = 0; outcome = record { failed = true; list = unheard 0 } }
 
--- what the node answers to a call; what it answers to the last for any other line
+-- what the node answers to a call; for any other line, what it answers to the taking of a status indication
 unfoldable pub answer : Call → State → Answer
 answer Bad st = takeStatusIndication st
 answer (Node x) st = takeStatusIndication st

@@ -1,2 +1,3 @@
+-- The laws that the proofs of `trace_input` share.
 pub mod LineKinds
 pub mod StackProfiles

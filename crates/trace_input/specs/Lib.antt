@@ -1,1 +1,2 @@
+-- The definitions of `trace_input`.
 pub mod TraceInput

@@ -1,3 +1,4 @@
+-- The laws that the proofs of `trace_lines` share.
 pub mod Zips
 pub mod Places
 pub mod Texts

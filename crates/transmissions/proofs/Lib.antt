@@ -1,1 +1,2 @@
+-- The laws that the proofs of `transmissions` share.
 pub mod Phases

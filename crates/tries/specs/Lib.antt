@@ -1,1 +1,2 @@
+-- The definitions of `tries`.
 pub mod Tries

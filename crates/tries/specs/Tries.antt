@@ -46,7 +46,7 @@ pastTable n c = some (λ i. not (ltb i n)) (drop (c .taken - 1) (itemsOf (c .lis
 
 -- Writing
 
--- the next candidate is taken, those before it skipped; the count of those taken is a byte, and 255 stays (refusal 5 turns any above 16 down)
+-- the next candidate is taken, those before it skipped, and with none left the count goes past the list; it is a byte, and 255 stays (refusal 5 turns any above 16 down)
 unfoldable pub taking : ℕ → Candidates → Candidates
 taking n c = record { list = c .list; taken = min (c .taken + skipped n c + 1) 255 }
 

@@ -17,7 +17,7 @@ use neighbor_table::seen;
 use nib::Neighbor;
 use nib::NeighborTable;
 
-// Indexes into the neighbour table. The first `taken` of them have been tried, of which the last is being tried; the others are still to be tried.
+// Indexes into the neighbour table. The first `taken` of them have been tried or skipped, but for the last of these, which is being tried; the others are still to be tried.
 pub struct Candidates {
     pub list: CandidateList,
     pub taken: u8,

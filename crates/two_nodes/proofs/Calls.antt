@@ -35,19 +35,19 @@ use Rattle.node.specs.declared.ScanOutcome.{ScanOutcome}
 use Rattle.node.specs.declared.ScanAnswer.{ScanAnswer}
 use Rattle.node.specs.declared.ReceptionOutcome.{ReceptionOutcome}
 use Rattle.node.specs.declared.ReceptionOutcome.the-variants.{NoData, ReceptionFailed, Received}
-use Rattle.two_nodes.specs.Statement.{Busy, NoLeave, Joins, Stage, begins, after-discovery, closed, Allowed, begin-discovery, begin-rejoin, join-after, busy-discovery, busy-join, busy-send, busy-poll, busy-receive, busy-timeout, scan-over, association-over, transmission-over, reception-over, time-passes, leave-taken, status-taken}
+use Rattle.two_nodes.specs.Statement.{UnderWay, NoLeave, Joins, Stage, begins, after-discovery, closed, Allowed, begin-discovery, begin-rejoin, join-after, busy-discovery, busy-join, busy-send, busy-poll, busy-receive, busy-timeout, scan-over, association-over, transmission-over, reception-over, time-passes, leave-taken, status-taken}
 use Rattle.two_nodes.proofs.Decisions.{OnPurpose, OnPhase, On, OnD, failing-on, tryNext-on, pollOn-on, requestSent-on, joinStarted-on, associated-on}
 
 -- WHAT IS KNOWN OF A CALL
 
 -- after the first start, the only start with no operation under way is a join of the network n
 abbrev pub Later : ℕ → State → Call → Type 0
-Later n s (discovery r) = Busy s
+Later n s (discovery r) = UnderWay s
 Later n s (join r) = NoneUnderWay s → Joins n (r .«rejoin_network») r
-Later n s (send a b) = Busy s
-Later n s poll = Busy s
-Later n s receive = Busy s
-Later n s (timeout k) = Busy s
+Later n s (send a b) = UnderWay s
+Later n s poll = UnderWay s
+Later n s receive = UnderWay s
+Later n s (timeout k) = UnderWay s
 Later n s (scan o) = Unit {0}
 Later n s (association o) = Unit {0}
 Later n s (transmission ok) = Unit {0}
@@ -65,7 +65,7 @@ pub never : {A : Type 0} (b : Bool) → b ≡ false → b ≡ true → A
 never true p q = absurd (false≢true (sym p))
 never false p q = absurd (false≢true q)
 
-pub not-both : {A : Type 0} (s : State) → Busy s → NoneUnderWay s → A
+pub not-both : {A : Type 0} (s : State) → UnderWay s → NoneUnderWay s → A
 not-both s b i = never (isIdle (s .control .operation .phase)) b i
 
 pub later : {n : ℕ} {g h : Stage} {s : State} {c : Call} → Begun g → Allowed n g s c h → Later n s c × Begun h

@@ -1,3 +1,4 @@
+-- The laws that the proofs of `two_nodes` share.
 pub mod Sight
 pub mod States
 pub mod Decisions

@@ -1,1 +1,2 @@
+-- The definitions of `two_nodes`.
 pub mod Statement

@@ -76,11 +76,12 @@ pub data AlikeCalls (n : ℕ) : List Call → List Call → Type 0 where
   more : {c d : Call} {cs ds : List Call} → AlikeCall n c d → AlikeCalls n cs ds → AlikeCalls n (c ∷ cs) (d ∷ ds)
 
 -- an operation is under way
-abbrev pub Busy : State → Type 0
-Busy s = isIdle (s .control .operation .phase) ≡ false
+abbrev pub UnderWay : State → Type 0
+UnderWay s = isIdle (s .control .operation .phase) ≡ false
 
--- the premise that no leave command is handled: a removal moves later entries up, so that an index still to be tried names another entry (`left-with`,
--- proofs/Examples.antt). A leave is handled where a poll or receive is awaited
+-- the premise that no leave command is handled: a notification's removal moves later entries up, so that an index still to be tried names another entry
+-- (`left-with`, proofs/Examples.antt), and a router announces a request with an IEEE address that another network's entry may have
+-- (compare/traces/x2-request-first.in). It is wider than these need. A leave is handled where a poll or receive is awaited
 abbrev pub NoReceptionAwaited : State → Type 0
 NoReceptionAwaited s = awaitsReception (s .control .operation .phase) ≡ false
 
@@ -125,12 +126,12 @@ pub data Allowed (n : ℕ) : Stage → State → Call → Stage → Type 0 where
   begin-discovery : {s : State} (r : ScanRange) → Allowed n begins s (discovery r) after-discovery
   begin-rejoin : {s : State} (r : NlmeJoinRequest) → Begins n (r .«rejoin_network») r s → Allowed n begins s (join r) closed
   join-after : {s : State} (r : NlmeJoinRequest) → NoneUnderWay s → Joins n (r .«rejoin_network») r → Allowed n after-discovery s (join r) closed
-  busy-discovery : {g : Stage} {s : State} (r : ScanRange) → Busy s → Allowed n g s (discovery r) g
-  busy-join : {g : Stage} {s : State} (r : NlmeJoinRequest) → Busy s → Allowed n g s (join r) g
-  busy-send : {g : Stage} {s : State} (a : ShortAddress) (b : Bool) → Busy s → Allowed n g s (send a b) g
-  busy-poll : {g : Stage} {s : State} → Busy s → Allowed n g s poll g
-  busy-receive : {g : Stage} {s : State} → Busy s → Allowed n g s receive g
-  busy-timeout : {g : Stage} {s : State} (k : Bool) → Busy s → Allowed n g s (timeout k) g
+  busy-discovery : {g : Stage} {s : State} (r : ScanRange) → UnderWay s → Allowed n g s (discovery r) g
+  busy-join : {g : Stage} {s : State} (r : NlmeJoinRequest) → UnderWay s → Allowed n g s (join r) g
+  busy-send : {g : Stage} {s : State} (a : ShortAddress) (b : Bool) → UnderWay s → Allowed n g s (send a b) g
+  busy-poll : {g : Stage} {s : State} → UnderWay s → Allowed n g s poll g
+  busy-receive : {g : Stage} {s : State} → UnderWay s → Allowed n g s receive g
+  busy-timeout : {g : Stage} {s : State} (k : Bool) → UnderWay s → Allowed n g s (timeout k) g
   scan-over : {g : Stage} {s : State} (o : ScanOutcome) → Allowed n g s (scan o) g
   association-over : {g : Stage} {s : State} (o : AssociationOutcome) → Allowed n g s (association o) g
   transmission-over : {g : Stage} {s : State} (ok : Bool) → Allowed n g s (transmission ok) g
@@ -143,7 +144,7 @@ pub data Listed (n : ℕ) : Stage → State → List Call → Type 0 where
   stops : {g : Stage} {s : State} → Listed n g s []
   goes-on : {g h : Stage} {s : State} {c : Call} {cs : List Call} → Allowed n g s c h → Listed n h (answer s c .state) cs → Listed n g s (c ∷ cs)
 
--- the claim: for a non-zero network n, a state with no operation under way, and two lists that differ in other networks' beacons alone
+-- the claim: for a non-zero network n, a state with no operation under way, and two lists as above that differ in other networks' beacons alone
 abbrev pub TwoNodes : Type 0
 TwoNodes =
     (n : ℕ) → (n ≡ 0 → ⊥) → (s : State) → NoneUnderWay s → (cs ds : List Call) → AlikeCalls n cs ds → Listed n begins s cs → run s cs ≡ run s ds

@@ -1,3 +1,4 @@
+-- The laws that the proofs of `yard_list` share.
 pub mod Lines
 pub mod Rows
 pub mod Cut

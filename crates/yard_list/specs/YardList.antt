@@ -104,7 +104,7 @@ abbrev pub rowsFrom : List NwkNeighbor → ℕ → List ℕ → List ℕ
 rowsFrom es place [] = []
 rowsFrom es place (i ∷ is) = rowOf (getD es i blank) place i ++ rowsFrom es (suc place) is
 
--- the first line
+-- the header: the names of the columns
 abbrev pub header : List ℕ
 header =
     cell (bytes "place") 9

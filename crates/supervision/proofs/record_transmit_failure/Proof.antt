@@ -8,9 +8,9 @@ use lib.ListN.{length, length-take, List·getD-eq-default}
 use Rattle.lists.specs.Lists.{firstIndex}
 use Rattle.lists.proofs.Lists.{length-mapped}
 use Rattle.lists.proofs.Pairs.{some-first, change-is}
-use Rattle.supervision.specs.Failures.{pairsOf, failuresOf, ofAddress, blankPair, countedOnce, roomy, added, pairPushed, recorded}
+use Rattle.supervision.specs.Failures.{pairsOf, failuresOf, ofAddress, blankPair, countedOnce, withRoom, added, pairPushed, recorded}
 use Rattle.supervision.specs.declared.TransmitFailures.{TransmitFailures}
-use Rattle.supervision.proofs.Failures.{push-of, roomy-few}
+use Rattle.supervision.proofs.Failures.{push-of, room-few}
 use Rattle.supervision.proofs.record_transmit_failure.Statement.{statement}
 use Rattle.supervision.proofs.record_transmit_failure.Tie as tie
 
@@ -39,7 +39,7 @@ push-requires : tie.Need-push-requires
 push-requires c κs =
     let f = c .before .before .before .before .args .failures in
     let n : length (f .pairs) ≡ 16 = search (needs, length-mapped) in
-    omega (arith, ap (λ (r : TransmitFailures). r .count) (c .with-room .ensures), roomy-few (pairsOf f) (omega (arith, length-take (f .count) (f .pairs))))
+    omega (arith, ap (λ (r : TransmitFailures). r .count) (c .with-room .ensures), room-few (pairsOf f) (omega (arith, length-take (f .count) (f .pairs))))
 
 returns-2 : tie.Need-returns-2
 unfolding recorded
@@ -54,7 +54,7 @@ returns-2 c =
     let e : c .push .result ≡ failuresOf (added a l) =
     c .push .ensures
     ∙ ap (λ (r : TransmitFailures). pairPushed r (record { address = a; count = 1 })) (c .before .with-room .ensures)
-    ∙ push-of (roomy l) (record { address = a; count = 1 }) (roomy-few l (omega (arith, length-take (f .count) (f .pairs)))) in
+    ∙ push-of (withRoom l) (record { address = a; count = 1 }) (room-few l (omega (arith, length-take (f .count) (f .pairs)))) in
     rw (e, some-first p l, le-ltb (firstIndex p l) (length l) h, List·getD-eq-default l blankPair h)
 
 pub record-transmit-failure-spec : {M : Type 1} → statement M
