@@ -1,4 +1,4 @@
--- The laws that the proofs of `candidates` share.
+-- The laws of `candidates`.
 pub mod NewestNext
 pub mod Chosen
 pub mod Listed

@@ -1,2 +1,2 @@
--- The laws that the proofs of `discovery` share.
+-- The laws of `discovery`.
 pub mod Scans

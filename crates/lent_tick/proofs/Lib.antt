@@ -1,2 +1,2 @@
--- The laws that the proofs of `lent_tick` share.
+-- The laws of `lent_tick`.
 pub mod LentTick

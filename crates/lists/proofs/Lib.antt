@@ -1,4 +1,4 @@
--- The laws that the proofs of `lists` share.
+-- The laws of `lists`.
 pub mod Lists
 pub mod Conditions
 pub mod First

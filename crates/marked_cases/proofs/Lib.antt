@@ -1,2 +1,2 @@
--- The laws that the proofs of `marked_cases` share.
+-- The laws of `marked_cases`.
 pub mod MarkedCases

@@ -1,4 +1,4 @@
--- The laws that the proofs of `neighbor_table` share.
+-- The laws of `neighbor_table`.
 pub mod Entries
 pub mod Looks
 pub mod Addressed

@@ -1,2 +1,2 @@
--- The laws that the proofs of `nib` share.
+-- The laws of `nib`.
 pub mod Tables

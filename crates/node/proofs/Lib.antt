@@ -1,3 +1,3 @@
--- The laws that the proofs of `node` share.
+-- The laws of `node`.
 pub mod Guards
 pub mod Closing

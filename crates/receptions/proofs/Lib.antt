@@ -1,2 +1,2 @@
--- The laws that the proofs of `receptions` share.
+-- The laws of `receptions`.
 pub mod Phases

@@ -1,3 +1,3 @@
--- The laws that the proofs of `refusals` share.
+-- The laws of `refusals`.
 pub mod Decisions
 pub mod Refusals

@@ -1,4 +1,4 @@
--- The laws that the proofs of `rejoin_bound` share.
+-- The laws of `rejoin_bound`.
 pub mod Measure
 pub mod Bound
 pub mod Reached

@@ -1,2 +1,2 @@
--- The laws that the proofs of `starts` share.
+-- The laws of `starts`.
 pub mod Phases

@@ -1,3 +1,3 @@
--- The laws that the proofs of `supervision` share.
+-- The laws of `supervision`.
 pub mod Periods
 pub mod Failures

@@ -1,4 +1,4 @@
--- The laws that the proofs of `text` share.
+-- The laws of `text`.
 pub mod Parts
 pub mod Numbers
 pub mod Sizes

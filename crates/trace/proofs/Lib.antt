@@ -1,4 +1,4 @@
--- The laws that the proofs of `trace` share.
+-- The laws of `trace`.
 pub mod Lists
 pub mod Padded
 pub mod Named

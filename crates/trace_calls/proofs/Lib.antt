@@ -1,2 +1,2 @@
--- The laws that the proofs of `trace_calls` share.
+-- The laws of `trace_calls`.
 pub mod Lines

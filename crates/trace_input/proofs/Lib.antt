@@ -1,3 +1,3 @@
--- The laws that the proofs of `trace_input` share.
+-- The laws of `trace_input`.
 pub mod LineKinds
 pub mod StackProfiles

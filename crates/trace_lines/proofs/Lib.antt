@@ -1,4 +1,4 @@
--- The laws that the proofs of `trace_lines` share.
+-- The laws of `trace_lines`.
 pub mod Zips
 pub mod Places
 pub mod Texts

@@ -1,2 +1,2 @@
--- The laws that the proofs of `transmissions` share.
+-- The laws of `transmissions`.
 pub mod Phases

@@ -1,4 +1,4 @@
--- The laws that the proofs of `two_nodes` share.
+-- The laws of `two_nodes`.
 pub mod Sight
 pub mod States
 pub mod Decisions

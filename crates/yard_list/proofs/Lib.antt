@@ -1,4 +1,4 @@
--- The laws that the proofs of `yard_list` share.
+-- The laws of `yard_list`.
 pub mod Lines
 pub mod Rows
 pub mod Cut
