@@ -8,8 +8,8 @@ use native.Mathlib.Omega.{arith}
 use borrow.Author.Tests.{eqb-true, eqb-false, ne-eqb, eq-eqb, leb-true, le-leb}
 use lib.Dec.{eqb}
 use lib.ListN.{length, getD}
-use Rattle.lists.specs.Lists.{indexesFrom, All, In, Sorted, ByKey}
-use Rattle.lists.proofs.Order.{All-of, Sorted-map, sort-sorted}
+use Rattle.lists.specs.Lists.{indexesFrom, All}
+use Rattle.lists.proofs.Order.{In, Sorted, ByKey, All-of, Sorted-map, sort-sorted}
 use Rattle.lists.proofs.Indexes.{indexes-ascend}
 use Rattle.nib.specs.Identifiers.{linkCost}
 use Rattle.nib.specs.Neighbors.{blank}

@@ -15,7 +15,6 @@ use Rattle.nib.specs.declared.NwkNeighbor.{NwkNeighbor}
 use Rattle.candidates.specs.UpdateIds.{ofNetwork, permits, potential, newest}
 use Rattle.candidates.specs.declared.CandidateList.{CandidateList}
 use Rattle.candidates.specs.declared.Newest.{Newest}
-use Rattle.candidates.specs.declared.Newest.the-variants.{Nothing, Id}
 
 -- The six conditions on an entry of 01, "Candidate list", one by one; `permits` and `potential` stand in UpdateIds.antt.
 
@@ -33,8 +32,8 @@ lowCost e = leb (linkCost (e .lqi)) 3
 
 -- an id is the newest one
 abbrev pub isId : ℕ → Newest → Bool
-isId id Nothing = false
-isId id (Id best) = eqb id best
+isId id Newest.Nothing = false
+isId id (Newest.Id best) = eqb id best
 
 -- update id equal to the newest of its network
 abbrev pub current : Bool → List NwkNeighbor → NwkNeighbor → Bool
@@ -73,4 +72,4 @@ pub record Candidate (router permit : Bool) (n : ℕ) (es : List NwkNeighbor) (e
   pub room : capacity router e ≡ true
   pub cost : linkCost (e .lqi) ≤ 3
   pub parent : e .«potential_parent» ≡ 1
-  pub newestId : newest permit (e .«extended_pan_id» .0) es ≡ Id (e .«update_id»)
+  pub newestId : newest permit (e .«extended_pan_id» .0) es ≡ Newest.Id (e .«update_id»)

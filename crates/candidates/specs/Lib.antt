@@ -1,4 +1,3 @@
 -- The definitions of `candidates`.
 pub mod UpdateIds
 pub mod Candidates
-pub mod Steps

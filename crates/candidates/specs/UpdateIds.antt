@@ -8,7 +8,6 @@ use lib.Signed.{ltZ}
 use Rattle.lists.specs.Lists.{select}
 use Rattle.nib.specs.declared.NwkNeighbor.{NwkNeighbor}
 use Rattle.candidates.specs.declared.Newest.{Newest}
-use Rattle.candidates.specs.declared.Newest.the-variants.{Nothing, Id}
 
 -- the 8-bit wrapping difference of two update ids
 abbrev pub difference : ℕ → ℕ → ℕ
@@ -26,10 +25,6 @@ newer id best = ltZ (pos 0) (signed8 (difference id best))
 abbrev pub ofNetwork : ℕ → NwkNeighbor → Bool
 ofNetwork n e = eqb (e .«extended_pan_id» .0) n
 
--- the entries of network n, in order
-abbrev pub networkOf : ℕ → List NwkNeighbor → List NwkNeighbor
-networkOf n es = select (ofNetwork n) es
-
 -- joining is permitted; a join asks it, a rejoin doesn't (Zigbee 3.6.1.4.2)
 abbrev pub permits : Bool → NwkNeighbor → Bool
 permits permit e = cond permit (e .«permit_joining») true
@@ -40,11 +35,13 @@ potential e = eqb (e .«potential_parent») 1
 
 -- a later id replaces the best so far if it is newer
 abbrev pub replaced : Newest → ℕ → Newest
-replaced Nothing id = Id id
-replaced (Id best) id = cond (newer id best) (Id id) (Id best)
+replaced Newest.Nothing id = Newest.Id id
+replaced (Newest.Id best) id = cond (newer id best) (Newest.Id id) (Newest.Id best)
 
--- "newest" (01, "Candidate list"): the update ids of network n's entries with potential parent 1 (and permitted, for a join), taken left to right.
--- Capacity and LQI play no part in it
+-- an entry has a part in the newest id of network n: it is of that network, with potential parent 1 (and permitted, for a join). Capacity and LQI play no part in it
+abbrev pub hasPart : Bool → ℕ → NwkNeighbor → Bool
+hasPart permit n e = ofNetwork n e && (permits permit e && potential e)
+
+-- "newest" (01, "Candidate list"): the update ids of the entries that have a part, taken left to right
 unfoldable pub newest : Bool → ℕ → List NwkNeighbor → Newest
-newest permit n es =
-    foldl (λ best e. replaced best (e .«update_id»)) Nothing (select (λ e. permits permit e && potential e) (networkOf n es))
+newest permit n es = foldl (λ best e. replaced best (e .«update_id»)) Newest.Nothing (select (hasPart permit n) es)

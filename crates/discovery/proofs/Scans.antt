@@ -1,5 +1,5 @@
 -- Laws of the entries made from a scan's descriptors. Assumes nothing.
-use Prim.Native.Nat.{ℕ, _+_, _<_, _≤_}
+use Prim.Native.Nat.{ℕ, _+_, _<_, _≤_, min}
 use mathlib.Core.Path.{_≡_, refl}
 use mathlib.Core.Bool.{Bool, true, false, cond}
 use mathlib.Core.List.{List, [], _∷_, _++_, append-nil}
@@ -20,7 +20,6 @@ use Rattle.mlme.specs.declared.Address.{Address}
 use Rattle.mlme.specs.declared.Address.the-variants.{Short, Extended}
 use Rattle.mlme.specs.declared.PanDescriptor.{PanDescriptor}
 use Rattle.discovery.specs.Discovery.{entryOf, neighborBy, neighborOf, present, neighborsOf, isShort, shortAddressed, beaconOf}
-use Rattle.discovery.specs.Steps.{slotOf, placedIn, countedIn}
 
 -- what a read past the end of the descriptors gives
 abbrev pub noDescriptor : PanDescriptor
@@ -68,12 +67,16 @@ network-neighbors n ds = select-flatMap entriesFrom (beaconOf n) (λ e. eqb (e .
     own d (Short p a) = refl
     own d (Extended p a) = none (beaconOf n d)
 
+-- what is written at the place for one entry more
+abbrev placed : Neighbor → ℕ → NwkNeighbor → NwkNeighbor
+placed x count old = cond (ltb count 16) (getD (present x) 0 old) old
+
 -- a table with one entry more, as the code writes it
 abbrev pub added : NeighborTable → Neighbor → NeighborTable
 added t x =
     record {
-      entries = set (t .entries) (slotOf (t .count)) (placedIn x (t .count) (getD (t .entries) (slotOf (t .count)) blank));
-      count = countedIn x (t .count);
+      entries = set (t .entries) (min (t .count) 15) (placed x (t .count) (getD (t .entries) (min (t .count) 15) blank));
+      count = min (t .count + length (present x)) 16;
     }
 
 -- in a table of at most the first 16 entries it is what there is at their end
@@ -82,16 +85,20 @@ unfolding present pushed
 added-next l x = go x (ltb (length l) 16) refl
   where
     -- what stands in a place is added there again
-    same : (t : NeighborTable) (k : ℕ) → _≡_ {A = NeighborTable} (record { entries = set (t .entries) k (getD (t .entries) k blank); count = t .count }) t
-    same t k = λ i. record { entries = set-getD (t .entries) k blank i; count = t .count }
+    same : (t : NeighborTable) (k n : ℕ) → n ≡ t .count → _≡_ {A = NeighborTable} (record { entries = set (t .entries) k (getD (t .entries) k blank); count = n }) t
+    same t k n e = λ i. record { entries = set-getD (t .entries) k blank i; count = e i }
 
     go : (x : Neighbor) (b : Bool) → ltb (length l) 16 ≡ b → added (tableOf (take 16 l)) x ≡ tableOf (take 16 (l ++ present x))
     go Absent true q =
         let h : length l < 16 = ltb-true (length l) 16 q in
-        rw (append-nil l, take-all 16 l (omega arith), q) (same (tableOf l) (length l))
+        rw (append-nil l, take-all 16 l (omega arith), q) (same (tableOf l) (min (length l) 15) (min (length l + 0) 16) (omega arith))
     go (Entry e) true q =
         let h : length l < 16 = ltb-true (length l) 16 q in
-        rw (take-all 16 l (omega arith), take-all 16 (l ++ (e ∷ [])) (omega (arith, length-append l (e ∷ []))), q) (rw q at (push-of l e h))
+        let k : min (length l) 15 ≡ length l = omega arith in
+        let n : min (length l + 1) 16 ≡ length l + 1 = omega arith in
+        rw (take-all 16 l (omega arith), take-all 16 (l ++ (e ∷ [])) (omega (arith, length-append l (e ∷ []))), q, k, n) (rw q at (push-of l e h))
     go x false q =
         let h : 16 ≤ length l = ltb-false (length l) 16 q in
-        rw (le-ltb (length (take 16 l)) 16 (omega (arith, length-take-le 16 l h)), take-append-le 16 l (present x) h) (same (tableOf (take 16 l)) 15)
+        let t = tableOf (take 16 l) in
+        let n : length (take 16 l) ≡ 16 = length-take-le 16 l h in
+        rw (le-ltb (length (take 16 l)) 16 (omega arith), take-append-le 16 l (present x) h) (same t (min (t .count) 15) (min (t .count + length (present x)) 16) (omega arith))

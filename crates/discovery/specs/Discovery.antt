@@ -8,12 +8,10 @@ use Rattle.lists.specs.Lists.{over, select}
 use Rattle.nib.specs.Identifiers.{bit}
 use Rattle.nib.specs.Neighbors.{NONE, deviceType}
 use Rattle.nib.specs.declared.Neighbor.{Neighbor}
-use Rattle.nib.specs.declared.Neighbor.the-variants.{Absent, Entry}
 use Rattle.nib.specs.declared.NwkNeighbor.{NwkNeighbor}
 use Rattle.nib.specs.declared.ShortAddress.{ShortAddress}
 use Rattle.mlme.specs.Mlme.{bits}
 use Rattle.mlme.specs.declared.Address.{Address}
-use Rattle.mlme.specs.declared.Address.the-variants.{Short, Extended}
 use Rattle.mlme.specs.declared.PanDescriptor.{PanDescriptor}
 use Rattle.discovery.specs.declared.NetworkDescriptor.{NetworkDescriptor}
 use Rattle.discovery.specs.declared.NlmeNetworkDiscoveryConfirm.{NlmeNetworkDiscoveryConfirm}
@@ -49,16 +47,16 @@ entryOf d address =
 
 -- one entry for a short-addressed descriptor, none for another
 unfoldable pub neighborBy : PanDescriptor → Address → Neighbor
-neighborBy d (Short pan address) = Entry (entryOf d address)
-neighborBy d (Extended pan address) = Absent
+neighborBy d (Address.Short pan address) = Neighbor.Entry (entryOf d address)
+neighborBy d (Address.Extended pan address) = Neighbor.Absent
 
 abbrev pub neighborOf : PanDescriptor → Neighbor
 neighborOf d = neighborBy d (d .«coord_address»)
 
 -- an entry as a list of one, none as the empty list
 unfoldable pub present : Neighbor → List NwkNeighbor
-present Absent = []
-present (Entry e) = e ∷ []
+present Neighbor.Absent = []
+present (Neighbor.Entry e) = e ∷ []
 
 -- one entry for each short-addressed descriptor, in scan order; others are dropped (01, "Neighbour entry")
 unfoldable pub neighborsOf : List PanDescriptor → List NwkNeighbor
@@ -66,8 +64,8 @@ neighborsOf ds = flatMap (λ d. present (neighborOf d)) ds
 
 -- whether an address is a short one
 abbrev pub isShort : Address → Bool
-isShort (Short pan address) = true
-isShort (Extended pan address) = false
+isShort (Address.Short pan address) = true
+isShort (Address.Extended pan address) = false
 
 -- how many descriptors are short-addressed (01, "When a call is turned down")
 abbrev pub shortAddressed : List PanDescriptor → ℕ

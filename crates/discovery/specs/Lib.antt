@@ -1,3 +1,2 @@
 -- The definitions of `discovery`.
 pub mod Discovery
-pub mod Steps

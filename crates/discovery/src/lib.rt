@@ -1,15 +1,17 @@
 // The neighbour table and the network descriptors that a discovery makes from a scan.
-ghost use Prim.Native.Nat.{_≤_, _<_};
+ghost use Prim.Native.Nat.{_+_, _≤_, min};
 ghost use mathlib.Core.Path.{_≡_};
 ghost use mathlib.Core.Bool.{cond};
-ghost use mathlib.Core.List.{map};
-ghost use lib.ListN.{length, take};
+ghost use mathlib.Core.List.{[], map};
+ghost use lib.Dec.{ltb};
+ghost use lib.ListN.{length, take, getD};
 ghost use Rattle.nib.specs.Neighbors.{tableOf};
 ghost use Rattle.mlme.specs.Mlme.{descriptorsOf};
 ghost use Rattle.discovery.specs.Discovery.{
   potentialParent,
   entryOf,
   neighborOf,
+  present,
   neighborsOf,
   shortAddressed,
   isShort,
@@ -17,7 +19,6 @@ ghost use Rattle.discovery.specs.Discovery.{
   blankDescriptor,
   confirmOf,
 };
-ghost use Rattle.discovery.specs.Steps.{slotOf, placedIn, countedIn};
 use mlme::Address;
 use mlme::PanDescriptor;
 use mlme::PanDescriptorList;
@@ -175,14 +176,14 @@ pub fn short_addressed(list: PanDescriptorList) -> usize
 
 // The place for one entry more, the last one where the table is full.
 fn slot_of(count: u8) -> u8
-    ensures { λ r. ⌜ (r ≡ slotOf count) × (r < 16) ⌝ }
+    ensures { λ r. ⌜ r ≡ min count 15 ⌝ }
 {
     if count < 16 { count } else { 15 }
 }
 
 // What is written there: what a descriptor gives, or what stood there where it gives nothing or the table is full.
 fn placed(found: Neighbor, count: u8, old: NwkNeighbor) -> NwkNeighbor
-    ensures { λ r. ⌜ r ≡ placedIn found count old ⌝ }
+    ensures { λ r. ⌜ r ≡ cond (ltb count 16) (getD (present found) 0 old) old ⌝ }
 {
     if 16 <= count {
         return old;
@@ -193,12 +194,12 @@ fn placed(found: Neighbor, count: u8, old: NwkNeighbor) -> NwkNeighbor
     }
 }
 
-// How many entries there are then.
+// How many entries there are then, at most 16.
 fn counted(found: Neighbor, count: u8) -> u8
-    ensures { λ r. ⌜ r ≡ countedIn found count ⌝ }
+    ensures { λ r. ⌜ r ≡ min (count + length (present found)) 16 ⌝ }
 {
     if 16 <= count {
-        return count;
+        return 16;
     }
     match found {
         Neighbor::Entry(_) => count + 1,
@@ -244,6 +245,18 @@ fn blank_descriptor() -> NetworkDescriptor
         permit_joining: false,
         router_capacity: false,
         end_device_capacity: false,
+    }
+}
+
+// A confirm that tells of no network.
+pub fn no_networks() -> NlmeNetworkDiscoveryConfirm
+    ensures { λ r. ⌜ r ≡ confirmOf [] ⌝ }
+{
+    let none = blank_descriptor();
+    let slots = [none; 27];
+    NlmeNetworkDiscoveryConfirm {
+        network_descriptor: slots,
+        count: 0,
     }
 }
 

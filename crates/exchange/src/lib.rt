@@ -1,14 +1,19 @@
-// Sends, polls and receives outside a rejoin: the start of each, and what follows each outcome.
+// Sends, polls and receives outside a rejoin, the start of each and what follows each outcome; the tick and the takings.
 ghost use mathlib.Core.Path.{_≡_};
 ghost use mathlib.Core.Bool.{cond};
 ghost use Rattle.frame.specs.Frame.{nextSeq};
 ghost use Rattle.frame.specs.declared.SentFrame.the-variants.{DataFrame};
-ghost use Rattle.nlme.specs.Nlme.{transmission, sentViaParent, failedViaParent};
-ghost use Rattle.exchange.specs.Exchange.{sendStarted, dataSent, pollStarted, receiveStarted, pollOver};
+ghost use Rattle.nlme.specs.Fields.{withSignals};
+ghost use Rattle.nlme.specs.Nlme.{transmission, nlmeTicked, sentViaParent, failedViaParent};
+ghost use Rattle.operation.specs.Operation.{withNlme};
+ghost use Rattle.exchange.specs.Exchange.{sendStarted, dataSent, pollStarted, receiveStarted, noData, pollOver, tickTold, leaveTaken, statusTaken};
 use frame::DataHeader;
 use frame::SentFrame;
+use management::LeaveIndicationSlot;
 use management::PollAnswer;
 use management::SendAnswer;
+use management::Signals;
+use management::StatusIndicationSlot;
 use nib::Neighbor;
 use nib::ShortAddress;
 use nlme::Nlme;
@@ -20,6 +25,7 @@ use operation::Phase;
 use operation::Purpose;
 use operation::RadioRequest;
 use operation::Step;
+use operation::TransmissionFor;
 
 // The next data frame, by way of a parent.
 fn data_frame(
@@ -60,7 +66,7 @@ pub fn send_started(
         Neighbor::Absent => return operation::ending(Step::Sent(SendAnswer::SendNotJoined), used),
         Neighbor::Entry(p) => {
             let frame = data_frame(control.nlme, destination, secure, p.network_address);
-            return operation::transmit(Phase::DataSend, frame, used);
+            return operation::transmit(Phase::Transmission(TransmissionFor::Data), frame, used);
         }
     }
 }
@@ -110,4 +116,55 @@ pub fn receive_started(control: Control) -> Decision
         RadioRequest::Receive,
         control,
     )
+}
+
+// What a poll or a receive that brings nothing answers.
+pub fn no_data(purpose: Purpose) -> PollAnswer
+    ensures { λ r. ⌜ r ≡ noData purpose ⌝ }
+{
+    match purpose {
+        Purpose::RejoinResponse => PollAnswer::PollNothing,
+        Purpose::SinglePoll => PollAnswer::PollNothing,
+        Purpose::SingleReceive => PollAnswer::PollMacError,
+        Purpose::TimeoutResponse(_) => PollAnswer::PollNothing,
+    }
+}
+
+// The tick of the parent's timer.
+pub fn ticked(control: Control, parent: Neighbor, elapsed_ms: u32) -> Decision
+    ensures { λ r. ⌜ r ≡ tickTold (nlmeTicked parent «elapsed_ms» (control .nlme)) control ⌝ }
+{
+    let ticked = control.nlme.tick_parent_timeout(parent, elapsed_ms);
+    let next = operation::with_nlme(control, ticked.nlme);
+    operation::telling(Step::Expired(ticked.expired), next)
+}
+
+fn with_signals(control: Control, signals: Signals) -> Control
+    ensures { λ r. ⌜ r ≡ withNlme (withSignals signals (control .nlme)) control ⌝ }
+{
+    let mut nlme = control.nlme;
+    nlme.signals = signals;
+    operation::with_nlme(control, nlme)
+}
+
+// The leave indication is taken.
+pub fn leave_taken(control: Control) -> Decision
+    ensures { λ r. ⌜ r ≡ leaveTaken control ⌝ }
+{
+    let signals = control.nlme.signals;
+    let slot = signals.leave_indication;
+    let taken = signals.with_leave_indication(LeaveIndicationSlot::NoLeaveIndication);
+    let next = with_signals(control, taken);
+    operation::telling(Step::LeaveTaken(slot), next)
+}
+
+// The status indication is taken.
+pub fn status_taken(control: Control) -> Decision
+    ensures { λ r. ⌜ r ≡ statusTaken control ⌝ }
+{
+    let signals = control.nlme.signals;
+    let slot = signals.nwk_status_indication;
+    let taken = signals.with_status_indication(StatusIndicationSlot::NoStatusIndication);
+    let next = with_signals(control, taken);
+    operation::telling(Step::StatusTaken(slot), next)
 }

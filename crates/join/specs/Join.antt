@@ -5,26 +5,23 @@ use mathlib.Core.Bool.{Bool, false, cond, _||_}
 use lib.Dec.{eqb}
 use Rattle.nib.specs.declared.NwkNeighbor.{NwkNeighbor}
 use Rattle.nib.specs.declared.Neighbor.{Neighbor}
-use Rattle.nib.specs.declared.Neighbor.the-variants.{Absent, Entry}
 use Rattle.nib.specs.declared.CapabilityInformation.{CapabilityInformation}
 use Rattle.mlme.specs.Mlme.{macCapabilities}
 use Rattle.management.specs.declared.NlmeJoinStatus.{NlmeJoinStatus}
-use Rattle.management.specs.declared.NlmeJoinStatus.the-variants.{Success, NotPermitted, PanAtCapacity, PanAccessDenied, MacError}
 use Rattle.management.specs.declared.NlmeJoinConfirm.{NlmeJoinConfirm}
 use Rattle.nlme.specs.Fields.{withNib, withCapabilities, withJoined}
 use Rattle.nlme.specs.Nlme.{negotiationReset}
 use Rattle.operation.specs.Operation.{withNlme, inPhase, decided, ending}
-use Rattle.operation.specs.declared.Phase.the-variants.{Idle, Association}
+use Rattle.operation.specs.declared.Phase.{Phase}
 use Rattle.operation.specs.declared.Control.{Control}
 use Rattle.operation.specs.declared.AssociateRequest.{AssociateRequest}
-use Rattle.operation.specs.declared.RadioRequest.the-variants.{Associate}
-use Rattle.operation.specs.declared.Note.the-variants.{NoNote}
-use Rattle.operation.specs.declared.Step.the-variants.{Ask, Joined}
-use Rattle.operation.specs.declared.Move.the-variants.{TakeNext, JoinTried}
+use Rattle.operation.specs.declared.RadioRequest.{RadioRequest}
+use Rattle.operation.specs.declared.Note.{Note}
+use Rattle.operation.specs.declared.Step.{Step}
+use Rattle.operation.specs.declared.Move.{Move}
 use Rattle.operation.specs.declared.Decision.{Decision}
 use Rattle.join.specs.declared.AssociationResponse.{AssociationResponse}
 use Rattle.join.specs.declared.AssociationOutcome.{AssociationOutcome}
-use Rattle.join.specs.declared.AssociationOutcome.the-variants.{Associated, AssociationFailed}
 
 -- "A failed confirm has address 0xffff and zeros" (Zigbee 3.2.2.13.3)
 abbrev pub failure : NlmeJoinStatus → NlmeJoinConfirm
@@ -32,7 +29,7 @@ failure st = record { status = st; «network_address» = record { 0 = 0xffff }; 
 
 -- the join or rejoin ends without success
 abbrev pub failing : NlmeJoinStatus → Control → Decision
-failing st c = ending (Joined (failure st)) c
+failing st c = ending (Step.Joined (failure st)) c
 
 -- whether the candidate being tried is no longer a potential parent
 abbrev pub clearing : Bool → Decision → Decision
@@ -57,7 +54,7 @@ associateRequest e c =
     }
 
 unfoldable pub associating : Bool → NwkNeighbor → Control → Decision
-associating clear e c = clearing clear (decided TakeNext NoNote (Ask (Associate (associateRequest e c))) (inPhase Association c))
+associating clear e c = clearing clear (decided Move.TakeNext Note.NoNote (Step.Ask (RadioRequest.Associate (associateRequest e c))) (inPhase Phase.Association c))
 
 -- the start: parent information, timeout index and timer are reset; "No candidate: NotPermitted. Then capabilities are stored and candidates tried in order"
 abbrev pub resetNegotiation : Control → Control
@@ -67,12 +64,12 @@ abbrev pub storeCapabilities : CapabilityInformation → Control → Control
 storeCapabilities i c = withNlme (withNib (withCapabilities i (c .nlme .nib)) (c .nlme)) c
 
 unfoldable pub joinStarted : CapabilityInformation → Neighbor → Control → Decision
-joinStarted i Absent c = failing NotPermitted (resetNegotiation c)
-joinStarted i (Entry e) c = associating false e (storeCapabilities i (resetNegotiation c))
+joinStarted i Neighbor.Absent c = failing NlmeJoinStatus.NotPermitted (resetNegotiation c)
+joinStarted i (Neighbor.Entry e) c = associating false e (storeCapabilities i (resetNegotiation c))
 
--- the statuses of an association or rejoin response (IEEE 802.15.4, association response): 0 success, 1 at capacity, 2 access denied; "any other, or a radio error, MacError"
-unfoldable pub statusOf : ℕ → NlmeJoinStatus
-statusOf s = cond (eqb s 0) Success (cond (eqb s 1) PanAtCapacity (cond (eqb s 2) PanAccessDenied MacError))
+-- the status of an association or rejoin response that is not 0, success (IEEE 802.15.4, association response): 1 at capacity, 2 access denied; "any other, or a radio error, MacError"
+unfoldable pub failedStatus : ℕ → NlmeJoinStatus
+failedStatus s = cond (eqb s 1) NlmeJoinStatus.PanAtCapacity (cond (eqb s 2) NlmeJoinStatus.PanAccessDenied NlmeJoinStatus.MacError)
 
 -- "Association status 0 sets addresses, ids and PARENT"; the confirm names the candidate's network and channel
 abbrev pub joinedControl : AssociationResponse → NwkNeighbor → Control → Control
@@ -81,33 +78,33 @@ joinedControl r e c = withNlme (withNib (withJoined (r .«association_address»)
 abbrev pub joinedConfirm : AssociationResponse → NwkNeighbor → NlmeJoinConfirm
 joinedConfirm r e =
     record {
-      status = Success;
+      status = NlmeJoinStatus.Success;
       «network_address» = r .«association_address»;
       «extended_pan_id» = e .«extended_pan_id»;
       channel = e .«logical_channel»;
     }
 
 unfoldable pub joinedBy : AssociationResponse → NwkNeighbor → Control → Decision
-joinedBy r e c = decided JoinTried NoNote (Joined (joinedConfirm r e)) (inPhase Idle (joinedControl r e c))
+joinedBy r e c = decided Move.JoinTried Note.NoNote (Step.Joined (joinedConfirm r e)) (inPhase Phase.Idle (joinedControl r e c))
 
 -- a candidate has failed: the next one is tried, or "The last candidate's status stands". "Status 1 and 2 clear potential parent"
 unfoldable pub failingOn : Bool → NlmeJoinStatus → Control → Decision
 failingOn clear st c = clearing clear (failing st c)
 
 unfoldable pub candidateFailed : Bool → NlmeJoinStatus → Neighbor → Control → Decision
-candidateFailed clear st Absent c = failingOn clear st c
-candidateFailed clear st (Entry e) c = associating clear e c
+candidateFailed clear st Neighbor.Absent c = failingOn clear st c
+candidateFailed clear st (Neighbor.Entry e) c = associating clear e c
 
 -- a success with no candidate being tried, which no run of calls leads to, counts as a radio error
 unfoldable pub succeeded : AssociationResponse → Neighbor → Neighbor → Control → Decision
-succeeded r Absent next c = candidateFailed false MacError next c
-succeeded r (Entry e) next c = joinedBy r e c
+succeeded r Neighbor.Absent next c = candidateFailed false NlmeJoinStatus.MacError next c
+succeeded r (Neighbor.Entry e) next c = joinedBy r e c
 
 -- "Status 1 and 2 clear potential parent"
 abbrev pub clears : ℕ → Bool
 clears s = eqb s 1 || eqb s 2
 
 unfoldable pub associated : AssociationOutcome → Neighbor → Neighbor → Control → Decision
-associated AssociationFailed tried next c = candidateFailed false MacError next c
-associated (Associated r) tried next c =
-    cond (eqb (r .status) 0) (succeeded r tried next c) (candidateFailed (clears (r .status)) (statusOf (r .status)) next c)
+associated AssociationOutcome.AssociationFailed tried next c = candidateFailed false NlmeJoinStatus.MacError next c
+associated (AssociationOutcome.Associated r) tried next c =
+    cond (eqb (r .status) 0) (succeeded r tried next c) (candidateFailed (clears (r .status)) (failedStatus (r .status)) next c)

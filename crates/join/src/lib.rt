@@ -4,7 +4,7 @@ ghost use Rattle.nlme.specs.Fields.{withNib};
 ghost use Rattle.operation.specs.Operation.{withNlme, inPhase, decided};
 ghost use Rattle.operation.specs.declared.RadioRequest.the-variants.{Associate};
 ghost use Rattle.operation.specs.declared.Note.the-variants.{NoNote};
-ghost use Rattle.join.specs.Join.{failure, failing, clearing, associateRequest, associating, resetNegotiation, storeCapabilities, joinStarted, statusOf, joinedControl, joinedConfirm, joinedBy, failingOn, candidateFailed, succeeded, clears, associated};
+ghost use Rattle.join.specs.Join.{failure, failing, clearing, associateRequest, associating, resetNegotiation, storeCapabilities, joinStarted, failedStatus, joinedControl, joinedConfirm, joinedBy, failingOn, candidateFailed, succeeded, clears, associated};
 use management::NlmeJoinConfirm;
 use management::NlmeJoinStatus;
 use nib::CapabilityInformation;
@@ -144,13 +144,10 @@ pub fn join_started(
     }
 }
 
-// The status of a confirm for the status of an association or rejoin response.
-pub fn join_status(status: u8) -> NlmeJoinStatus
-    ensures { λ r. ⌜ r ≡ statusOf status ⌝ }
+// The status of a confirm for the status of an association or rejoin response that is no success.
+pub fn failed_status(status: u8) -> NlmeJoinStatus
+    ensures { λ r. ⌜ r ≡ failedStatus status ⌝ }
 {
-    if status == 0 {
-        return NlmeJoinStatus::Success;
-    }
     if status == 1 {
         return NlmeJoinStatus::PanAtCapacity;
     }
@@ -253,7 +250,7 @@ pub fn association_over(
             if status == 0 {
                 return succeeded(response, tried, next, control);
             }
-            return candidate_failed(clears(status), join_status(status), next, control);
+            return candidate_failed(clears(status), failed_status(status), next, control);
         }
     }
 }

@@ -10,16 +10,19 @@ use Rattle.lists.proofs.Conditions.{pick-true, pick-false}
 use Rattle.parent_timer.specs.declared.ParentTimer.{ParentTimer}
 use Rattle.operation.specs.declared.Step.the-variants.{Refused}
 use Rattle.operation.proofs.Step.{the-type}
-use Rattle.node.specs.Refusals.{indexPastTable, bad, refuse, otherOrRefusal}
-use Rattle.node.specs.Calls.{tick}
+use Rattle.node.specs.Looks.{finish}
+use Rattle.node.specs.Refusals.{bad, refuse}
+use Rattle.node.specs.Calls.{elapsed, answer}
 use Rattle.node.specs.declared.State.{State}
 use Rattle.node.specs.declared.Answer.{Answer}
+use Rattle.lent_tick.specs.declared.LentTicked.{LentTicked}
+use Rattle.lent_tick.specs.OwnRecord.{OwnRecord}
 use Rattle.lent_tick.specs.LentTick.{timerOf, withTimer, turnedDown, leaving, lentTick}
 
 -- the tag of a tick's answer: 0 for a refusal, 9 for one that says whether the timer expired
-tag-of : (elapsed : ℕ) (s : State) → tagOf the-type (tick elapsed s .step) ≡ cond (bad s) 0 9
-unfolding tick otherOrRefusal refuse
-tag-of elapsed s = go (bad s) _ refl
+tag-of : (ms : ℕ) (s : State) → tagOf the-type (answer s (elapsed ms) .step) ≡ cond (bad s) 0 9
+unfolding answer finish refuse
+tag-of ms s = go (bad s) _ refl
   where
     go : (b : Bool) (a : Answer) → tagOf the-type (a .step) ≡ 9 → tagOf the-type (cond b (refuse 5 s) a .step) ≡ cond b 0 9
     go true a h = refl
@@ -30,12 +33,12 @@ abbrev noRefusal : List ℕ
 noRefusal = 1 ∷ 2 ∷ 3 ∷ 4 ∷ 5 ∷ 6 ∷ 7 ∷ 8 ∷ 9 ∷ 10 ∷ 11 ∷ []
 
 -- a is the tick of the state with the lent record: if it says that it was refused, 5 turned it down; if it says anything else, 5 did not
-module _ (t : ParentTimer) (elapsed : ℕ) (s : State) (a : Answer) (e : a ≡ tick elapsed (withTimer t s)) where
+module _ (t : ParentTimer) (ms : ℕ) (s : State) (a : Answer) (e : a ≡ answer (withTimer t s) (elapsed ms)) where
   tag : tagOf the-type (a .step) ≡ cond (bad s) 0 9
-  unfolding bad indexPastTable
-  tag = ap (λ (x : Answer). tagOf the-type (x .step)) e ∙ tag-of elapsed (withTimer t s)
+  unfolding bad
+  tag = ap (λ (x : Answer). tagOf the-type (x .step)) e ∙ tag-of ms (withTimer t s)
 
-  pub if-refused : (n : ℕ) → a .step ≡ Refused n → turnedDown t s ≡ lentTick t elapsed s
+  pub if-refused : (n : ℕ) → a .step ≡ Refused n → turnedDown t s ≡ lentTick t ms s
   unfolding lentTick
   if-refused n h = pick-true (bad s) _ _ (go (bad s) (sym tag ∙ ap (tagOf the-type) h))
     where
@@ -43,7 +46,7 @@ module _ (t : ParentTimer) (elapsed : ℕ) (s : State) (a : Answer) (e : a ≡ t
       go true q = refl
       go false q = absurd (omega arith)
 
-  pub if-not-refused : OneOf noRefusal (tagOf the-type (a .step)) → leaving a ≡ lentTick t elapsed s
+  pub if-not-refused : OneOf noRefusal (tagOf the-type (a .step)) → leaving a ≡ lentTick t ms s
   unfolding lentTick
   if-not-refused h = ap leaving e ∙ pick-false (bad s) _ _ (go (bad s) (subst (OneOf noRefusal) tag h))
     where
@@ -52,10 +55,13 @@ module _ (t : ParentTimer) (elapsed : ℕ) (s : State) (a : Answer) (e : a ≡ t
       go false q = refl
 
 -- lent the state's own record, the answer is the state's tick, and the record left is that of the state left
-pub own-record : (elapsed : ℕ) (s : State) → lentTick (timerOf s) elapsed s ≡ leaving (tick elapsed s)
-unfolding lentTick tick otherOrRefusal refuse
-own-record elapsed s = go (bad s) _
+own : (ms : ℕ) (s : State) → lentTick (timerOf s) ms s ≡ leaving (answer s (elapsed ms))
+unfolding lentTick answer refuse
+own ms s = go (bad s) _
   where
     go : (b : Bool) (a : Answer) → cond b (turnedDown (timerOf s) s) (leaving (cond b (refuse 5 s) a)) ≡ leaving (cond b (refuse 5 s) a)
     go true a = refl
     go false a = refl
+
+pub own-record : OwnRecord
+own-record = record { answer-same = λ ms s. ap (λ (l : LentTicked). l .answer) (own ms s); record-same = λ ms s. ap (λ (l : LentTicked). l .timer) (own ms s) }

@@ -4,7 +4,7 @@ use mathlib.Core.Bool.{cond}
 use Rattle.parent_timer.specs.declared.ParentTimer.{ParentTimer}
 use Rattle.nlme.specs.Fields as fields
 use Rattle.node.specs.Refusals.{bad, refuse}
-use Rattle.node.specs.Calls.{withNode, tick}
+use Rattle.node.specs.Calls.{withNode, elapsed, answer}
 use Rattle.node.specs.declared.State.{State}
 use Rattle.node.specs.declared.Answer.{Answer}
 use Rattle.lent_tick.specs.declared.LentTicked.{LentTicked}
@@ -26,4 +26,4 @@ leaving a = record { timer = timerOf (a .state); answer = a }
 
 -- a tick of the state with the lent record in place of its own
 unfoldable pub lentTick : ParentTimer → ℕ → State → LentTicked
-lentTick t elapsed s = cond (bad s) (turnedDown t s) (leaving (tick elapsed (withTimer t s)))
+lentTick t ms s = cond (bad s) (turnedDown t s) (leaving (answer (withTimer t s) (elapsed ms)))

@@ -1,2 +1,3 @@
 -- The definitions of `lent_tick`.
 pub mod LentTick
+pub mod OwnRecord

@@ -7,7 +7,8 @@ use mathlib.Core.List.{List, [], _∷_, _++_}
 use native.Mathlib.Nat.{add-zero, le-of-suc-le-suc, not-suc-le-zero}
 use native.Mathlib.Omega.{arith}
 use lib.ListN.{length, getD}
-use Rattle.lists.specs.Lists.{select, indexesFrom, All, In, Sorted}
+use Rattle.lists.specs.Lists.{select, indexesFrom, All}
+use Rattle.lists.proofs.Order.{In, Sorted}
 
 module _ {A : Type 0} where
   pub select-both : (p q : A → Bool) (l : List A) → select (λ x. p x && q x) l ≡ select q (select p l)

@@ -9,7 +9,7 @@ use borrow.Author.Tests.{lt-ltb}
 use lib.Dec.{ltb}
 use lib.ListN.{length, drop, getD, set, length-set}
 use lib.Seq.{set-append-left}
-use Rattle.lists.specs.Lists.{over, firstIndex, some, changeFirst, removeFirst, removeAt}
+use Rattle.lists.specs.Lists.{over, firstIndex, some, changeAt, removeFirst, removeAt}
 
 module _ {A : Type 0} where
   -- one passes exactly if the place is within the list
@@ -21,15 +21,11 @@ module _ {A : Type 0} where
       go true h = sym (lt-ltb 0 (suc (length xs)) (omega arith))
       go false h = rw (compare·suc-suc) h
 
-  -- to change the first is to write at its place
-  pub change-is : (p : A → Bool) (f : A → A) (l : List A) (d : A) → changeFirst p f l ≡ set l (firstIndex p l) (f (getD l (firstIndex p l) d))
-  change-is p f [] d = refl
-  change-is p f (x ∷ xs) d = go (p x) (change-is p f xs d)
-    where
-      go : (b : Bool) → changeFirst p f xs ≡ set xs (firstIndex p xs) (f (getD xs (firstIndex p xs) d))
-          → cond b (f x ∷ xs) (x ∷ changeFirst p f xs) ≡ set (x ∷ xs) (cond b 0 (suc (firstIndex p xs))) (f (getD (x ∷ xs) (cond b 0 (suc (firstIndex p xs))) d))
-      go true h = refl
-      go false h = ap (λ (z : List A). x ∷ z) h
+  -- to change the element at a place is to write there
+  pub change-is : (k : ℕ) (f : A → A) (l : List A) (d : A) → changeAt k f l ≡ set l k (f (getD l k d))
+  change-is k f [] d = refl
+  change-is zero f (x ∷ xs) d = refl
+  change-is (suc k) f (x ∷ xs) d = ap (λ (z : List A). x ∷ z) (change-is k f xs d)
 
   -- to remove the first is to remove at its place
   pub remove-is : (p : A → Bool) (l : List A) → removeFirst p l ≡ removeAt (firstIndex p l) l

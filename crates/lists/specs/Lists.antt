@@ -1,9 +1,7 @@
 -- Functions on lists that the definitions of every crate are made of.
-use Prim.Native.Nat.{ℕ, zero, suc, _<_}
+use Prim.Native.Nat.{ℕ, zero, suc}
 use mathlib.Core.Bool.{Bool, true, false, cond, _&&_}
 use mathlib.Core.List.{List, [], _∷_, _++_, foldl}
-use mathlib.Core.Path.{_≡_}
-use mathlib.Core.Logic.{_⊎_}
 use lib.Dec.{ltb}
 use lib.ListN.{length, take, drop}
 
@@ -45,16 +43,6 @@ module _ {A : Type 0} where
   abbrev pub insertAt : ℕ → A → List A → List A
   insertAt p x l = take p l ++ (x ∷ drop p l)
 
-  -- x is one of the elements
-  abbrev pub In : A → List A → Type 0
-  In x [] = ⊥
-  In x (y ∷ ys) = (x ≡ y) ⊎ In x ys
-
-  -- each element stands in a relation to every later one
-  abbrev pub Sorted : (A → A → Type 0) → List A → Type 0
-  Sorted R [] = Unit {0}
-  Sorted R (x ∷ xs) = All (R x) xs × Sorted R xs
-
   -- how many elements stand before the first that passes a test: its index, or the length where none passes
   abbrev pub firstIndex : (A → Bool) → List A → ℕ
   firstIndex p [] = 0
@@ -91,11 +79,7 @@ module _ {A : Type 0} where
   removeAt zero (x ∷ xs) = xs
   removeAt (suc k) (x ∷ xs) = x ∷ removeAt k xs
 
--- x before y in the order by a key, and by number among equal keys
-abbrev pub ByKey : (ℕ → ℕ) → ℕ → ℕ → Type 0
-ByKey k x y = (k x < k y) ⊎ ((k x ≡ k y) × (x < y))
-
--- whether every element passes a test
-abbrev pub every : {A : Type 0} → (A → Bool) → List A → Bool
-every p [] = true
-every p (x ∷ xs) = p x && every p xs
+  -- whether every element passes a test
+  abbrev pub every : (A → Bool) → List A → Bool
+  every p [] = true
+  every p (x ∷ xs) = p x && every p xs

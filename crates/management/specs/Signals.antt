@@ -6,38 +6,18 @@ use Rattle.management.specs.declared.LeaveIndicationSlot.{LeaveIndicatio
 use Rattle.management.specs.declared.StatusIndicationSlot.{StatusIndicationSlot}
 use Rattle.management.specs.declared.Signals.{Signals}
 
+abbrev signals : RejoinResponseSlot → TimeoutResponseSlot → LeaveIndicationSlot → StatusIndicationSlot → Signals
+signals rejoin timeout leave status =
+    record { «rejoin_response» = rejoin; «timeout_response» = timeout; «leave_indication» = leave; «nwk_status_indication» = status }
+
 abbrev pub withRejoinResponse : RejoinResponseSlot → Signals → Signals
-withRejoinResponse slot s =
-    record {
-      «rejoin_response» = slot;
-      «timeout_response» = s .«timeout_response»;
-      «leave_indication» = s .«leave_indication»;
-      «nwk_status_indication» = s .«nwk_status_indication»;
-    }
+withRejoinResponse slot s = signals slot (s .«timeout_response») (s .«leave_indication») (s .«nwk_status_indication»)
 
 abbrev pub withTimeoutResponse : TimeoutResponseSlot → Signals → Signals
-withTimeoutResponse slot s =
-    record {
-      «rejoin_response» = s .«rejoin_response»;
-      «timeout_response» = slot;
-      «leave_indication» = s .«leave_indication»;
-      «nwk_status_indication» = s .«nwk_status_indication»;
-    }
+withTimeoutResponse slot s = signals (s .«rejoin_response») slot (s .«leave_indication») (s .«nwk_status_indication»)
 
 abbrev pub withLeaveIndication : LeaveIndicationSlot → Signals → Signals
-withLeaveIndication slot s =
-    record {
-      «rejoin_response» = s .«rejoin_response»;
-      «timeout_response» = s .«timeout_response»;
-      «leave_indication» = slot;
-      «nwk_status_indication» = s .«nwk_status_indication»;
-    }
+withLeaveIndication slot s = signals (s .«rejoin_response») (s .«timeout_response») slot (s .«nwk_status_indication»)
 
 abbrev pub withStatusIndication : StatusIndicationSlot → Signals → Signals
-withStatusIndication slot s =
-    record {
-      «rejoin_response» = s .«rejoin_response»;
-      «timeout_response» = s .«timeout_response»;
-      «leave_indication» = s .«leave_indication»;
-      «nwk_status_indication» = slot;
-    }
+withStatusIndication slot s = signals (s .«rejoin_response») (s .«timeout_response») (s .«leave_indication») slot

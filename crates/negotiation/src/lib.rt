@@ -2,11 +2,9 @@
 ghost use mathlib.Core.Path.{_≡_};
 ghost use mathlib.Core.Bool.{cond};
 ghost use lib.Dec.{eqb};
-ghost use Rattle.management.specs.declared.NegotiationAnswer.the-variants.{NotNegotiated};
 ghost use Rattle.nlme.specs.Nlme.{timeoutRequested};
-ghost use Rattle.operation.specs.Operation.{withNlme, ending};
-ghost use Rattle.operation.specs.declared.Step.the-variants.{KeepaliveOver};
-ghost use Rattle.exchange.specs.Exchange.{timeoutFailed, accepted, noTimeoutResponse, requesting, timeoutStarted, timeoutUnanswered, timeoutPollParent, timeoutPollOn, timeoutRequestSent};
+ghost use Rattle.operation.specs.Operation.{withNlme, withPollsLeft, ending, pollOn};
+ghost use Rattle.exchange.specs.Exchange.{timeoutFailed, accepted, noTimeoutResponse, requesting, timeoutStarted, timeoutGoesOn, timeoutRequestSent};
 use management::KeepaliveAnswer;
 use management::NegotiationAnswer;
 use management::TimeoutResponseSlot;
@@ -18,13 +16,15 @@ use operation::Decision;
 use operation::Phase;
 use operation::Purpose;
 use operation::Step;
+use operation::TimeoutFor;
+use operation::TransmissionFor;
 
 // The polls that follow a send that succeeded.
 pub const TIMEOUT_RESPONSE_POLL_RETRIES: u8 = 3;
 
 // A keepalive is over.
 fn keepalive_over(control: Control, nlme: Nlme, answer: KeepaliveAnswer) -> Decision
-    ensures { λ r. ⌜ r ≡ ending (KeepaliveOver answer) (withNlme nlme control) ⌝ }
+    ensures { λ r. ⌜ r ≡ ending (Step.KeepaliveOver answer) (withNlme nlme control) ⌝ }
 {
     operation::ending(
         Step::KeepaliveOver(answer),
@@ -36,30 +36,38 @@ fn keepalive_over(control: Control, nlme: Nlme, answer: KeepaliveAnswer) -> Deci
 fn timeout_failed(
     control: Control,
     answer: NegotiationAnswer,
-    keepalive: bool,
+    purpose: TimeoutFor,
     parent: Neighbor,
 ) -> Decision
-    ensures { λ r. ⌜ r ≡ timeoutFailed answer keepalive parent control ⌝ }
+    ensures { λ r. ⌜ r ≡ timeoutFailed answer purpose parent control ⌝ }
 {
-    if keepalive {
-        let failed = control.nlme.parent_link_failure(parent);
-        return keepalive_over(control, failed, KeepaliveAnswer::KeepaliveParentLinkFailure);
+    match purpose {
+        TimeoutFor::Negotiation => {
+            return operation::ending(Step::NegotiationOver(answer), control);
+        }
+        TimeoutFor::Keepalive => {
+            let failed = control.nlme.parent_link_failure(parent);
+            return keepalive_over(control, failed, KeepaliveAnswer::KeepaliveParentLinkFailure);
+        }
     }
-    operation::ending(Step::NegotiationOver(answer), control)
 }
 
 // The parent answered with status 0.
-fn accepted(control: Control, keepalive: bool) -> Decision
-    ensures { λ r. ⌜ r ≡ accepted keepalive control ⌝ }
+fn accepted(control: Control, purpose: TimeoutFor) -> Decision
+    ensures { λ r. ⌜ r ≡ accepted purpose control ⌝ }
 {
-    if keepalive {
-        let refreshed = control.nlme.refresh_parent_timeout();
-        return keepalive_over(control, refreshed, KeepaliveAnswer::KeepaliveOk);
+    match purpose {
+        TimeoutFor::Negotiation => {
+            return operation::ending(
+                Step::NegotiationOver(NegotiationAnswer::Negotiated),
+                control,
+            );
+        }
+        TimeoutFor::Keepalive => {
+            let refreshed = control.nlme.refresh_parent_timeout();
+            return keepalive_over(control, refreshed, KeepaliveAnswer::KeepaliveOk);
+        }
     }
-    operation::ending(
-        Step::NegotiationOver(NegotiationAnswer::Negotiated),
-        control,
-    )
 }
 
 // No timeout response is left in its slot.
@@ -73,18 +81,22 @@ fn no_timeout_response(control: Control) -> Control
 }
 
 // The send of a timeout request, before its polls.
-fn request_timeout(control: Control, keepalive: bool, parent: NwkNeighbor) -> Decision
-    ensures { λ r. ⌜ r ≡ requesting keepalive (timeoutRequested parent (control .nlme)) control ⌝ }
+fn request_timeout(control: Control, purpose: TimeoutFor, parent: NwkNeighbor) -> Decision
+    ensures { λ r. ⌜ r ≡ requesting purpose (timeoutRequested parent (control .nlme)) control ⌝ }
 {
     let built = control.nlme.timeout_request(parent);
     let pending = operation::with_nlme(control, built.nlme);
     let next = operation::with_polls(pending, TIMEOUT_RESPONSE_POLL_RETRIES);
-    operation::transmit(Phase::TimeoutSend(keepalive), built.transmission, next)
+    operation::transmit(
+        Phase::Transmission(TransmissionFor::TimeoutRequest(purpose)),
+        built.transmission,
+        next,
+    )
 }
 
 // The start of a negotiation or keepalive.
-pub fn timeout_started(control: Control, keepalive: bool, parent: Neighbor) -> Decision
-    ensures { λ r. ⌜ r ≡ timeoutStarted keepalive parent control ⌝ }
+pub fn timeout_started(control: Control, purpose: TimeoutFor, parent: Neighbor) -> Decision
+    ensures { λ r. ⌜ r ≡ timeoutStarted purpose parent control ⌝ }
 {
     let ready = no_timeout_response(control);
     match parent {
@@ -92,68 +104,58 @@ pub fn timeout_started(control: Control, keepalive: bool, parent: Neighbor) -> D
             return timeout_failed(
                 ready,
                 NegotiationAnswer::NegotiationNotJoined,
-                keepalive,
+                purpose,
                 parent,
             );
         }
-        Neighbor::Entry(p) => return request_timeout(ready, keepalive, p),
+        Neighbor::Entry(p) => return request_timeout(ready, purpose, p),
     }
 }
 
 // No response came in the polls, or there is no parent to poll for those left.
-fn timeout_unanswered(control: Control, keepalive: bool, parent: Neighbor) -> Decision
-    ensures { λ r. ⌜ r ≡ timeoutUnanswered keepalive parent control ⌝ }
+fn timeout_unanswered(control: Control, purpose: TimeoutFor, parent: Neighbor) -> Decision
+    ensures { λ r. ⌜ r ≡ timeoutFailed NegotiationAnswer.NotNegotiated purpose parent (withPollsLeft 0 control) ⌝ }
 {
     let none_left = operation::with_polls(control, 0);
-    let over = timeout_failed(
-        none_left,
-        NegotiationAnswer::NotNegotiated,
-        keepalive,
-        parent,
-    );
-    operation::after_polls(control.operation.polls_left, over)
+    timeout_failed(none_left, NegotiationAnswer::NotNegotiated, purpose, parent)
 }
 
 // Without a timeout response the polls go on while any is left.
-fn timeout_missing(control: Control, keepalive: bool, parent: Neighbor) -> Decision
-    ensures { λ r. ⌜ r ≡ cond (eqb (control .operation .«polls_left») 0) (timeoutUnanswered keepalive parent control) (timeoutPollParent keepalive parent control) ⌝ }
+fn timeout_missing(control: Control, purpose: TimeoutFor, parent: Neighbor) -> Decision
+    ensures { λ r. ⌜ r ≡ pollOn (Purpose.TimeoutResponse purpose) parent (timeoutFailed NegotiationAnswer.NotNegotiated purpose parent) control ⌝ }
 {
-    if control.operation.polls_left == 0 {
-        return timeout_unanswered(control, keepalive, parent);
-    }
     match parent {
-        Neighbor::Absent => return timeout_unanswered(control, keepalive, parent),
+        Neighbor::Absent => return timeout_unanswered(control, purpose, parent),
         Neighbor::Entry(p) => {
-            return operation::poll_counted(Purpose::TimeoutResponse(keepalive), p, control);
+            if control.operation.polls_left == 0 {
+                return timeout_unanswered(control, purpose, parent);
+            }
+            return operation::poll_counted(Purpose::TimeoutResponse(purpose), p, control);
         }
     }
 }
 
 // A timeout response ends the polls, and its status decides.
-fn timeout_answered(control: Control, status: u8, keepalive: bool, parent: Neighbor) -> Decision
-    ensures { λ r. ⌜ r ≡ cond (eqb status 0) (accepted keepalive (noTimeoutResponse control)) (timeoutFailed NotNegotiated keepalive parent (noTimeoutResponse control)) ⌝ }
+fn timeout_answered(control: Control, status: u8, purpose: TimeoutFor, parent: Neighbor) -> Decision
+    ensures { λ r. ⌜ r ≡ cond (eqb status 0) (accepted purpose (noTimeoutResponse control)) (timeoutFailed NegotiationAnswer.NotNegotiated purpose parent (noTimeoutResponse control)) ⌝ }
 {
     let taken = no_timeout_response(control);
     if status == 0 {
-        return accepted(taken, keepalive);
+        return accepted(taken, purpose);
     }
-    timeout_failed(taken, NegotiationAnswer::NotNegotiated, keepalive, parent)
+    timeout_failed(taken, NegotiationAnswer::NotNegotiated, purpose, parent)
 }
 
 // The polls go on, or are over.
-pub fn timeout_poll_on(control: Control, keepalive: bool, parent: Neighbor) -> Decision
-    ensures { λ r. ⌜ r ≡ timeoutPollOn keepalive parent control ⌝ }
+pub fn timeout_goes_on(control: Control, purpose: TimeoutFor, parent: Neighbor) -> Decision
+    ensures { λ r. ⌜ r ≡ timeoutGoesOn purpose parent control ⌝ }
 {
     let signals = control.nlme.signals;
     let slot = signals.timeout_response;
     match slot {
-        TimeoutResponseSlot::NoTimeoutResponse => return timeout_missing(
-            control,
-            keepalive,
-            parent,
-        ),
+        TimeoutResponseSlot::NoTimeoutResponse => return timeout_missing(control, purpose, parent),
         TimeoutResponseSlot::HasTimeoutResponse(response) => {
-            return timeout_answered(control, response.status, keepalive, parent);
+            return timeout_answered(control, response.status, purpose, parent);
         }
     }
 }
@@ -161,19 +163,19 @@ pub fn timeout_poll_on(control: Control, keepalive: bool, parent: Neighbor) -> D
 // The outcome of the request's send.
 pub fn timeout_request_sent(
     control: Control,
-    keepalive: bool,
+    purpose: TimeoutFor,
     sent: bool,
     parent: Neighbor,
 ) -> Decision
-    ensures { λ r. ⌜ r ≡ timeoutRequestSent keepalive sent parent control ⌝ }
+    ensures { λ r. ⌜ r ≡ timeoutRequestSent purpose sent parent control ⌝ }
 {
     if sent {
-        return timeout_poll_on(control, keepalive, parent);
+        return timeout_goes_on(control, purpose, parent);
     }
     timeout_failed(
         control,
         NegotiationAnswer::NegotiationMacError,
-        keepalive,
+        purpose,
         parent,
     )
 }

@@ -1,2 +1,3 @@
 -- The definitions of `neighbor_table`.
 pub mod NeighborTable
+pub mod Steps

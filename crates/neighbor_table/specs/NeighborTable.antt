@@ -10,13 +10,7 @@ use Rattle.nib.specs.declared.IeeeAddress.{IeeeAddress}
 use Rattle.nib.specs.declared.NwkNeighbor.{NwkNeighbor}
 use Rattle.nib.specs.declared.NeighborTable.{NeighborTable}
 use Rattle.nib.specs.declared.Neighbor.{Neighbor}
-use Rattle.nib.specs.declared.Neighbor.the-variants.{Absent, Entry}
 use Rattle.nib.specs.declared.OptionalIeee.{OptionalIeee}
-use Rattle.nib.specs.declared.OptionalIeee.the-variants.{NoIeee, Ieee}
-use Rattle.neighbor_table.specs.declared.Wanted.{Wanted}
-use Rattle.neighbor_table.specs.declared.Wanted.the-variants.{Address, Parent}
-use Rattle.neighbor_table.specs.declared.Change.{Change}
-use Rattle.neighbor_table.specs.declared.Change.the-variants.{ExtendedAddress, Relationship, NoPotentialParent, NoBeaconFields}
 
 -- Reading
 
@@ -36,8 +30,8 @@ parentOf es = entryAt es (firstIndex isParent es)
 
 -- an IEEE address of 0, which an entry has from its scan, is not known (01, "Neighbour entry"; `neighbor_ieee_address` of the source)
 abbrev pub knownIeee : Neighbor → OptionalIeee
-knownIeee Absent = NoIeee
-knownIeee (Entry e) = cond (eqb (e .«extended_address» .0) 0) NoIeee (Ieee (e .«extended_address»))
+knownIeee Neighbor.Absent = OptionalIeee.NoIeee
+knownIeee (Neighbor.Entry e) = cond (eqb (e .«extended_address» .0) 0) OptionalIeee.NoIeee (OptionalIeee.Ieee (e .«extended_address»))
 
 -- the IEEE address that is known of a short address (Zigbee 3.4.6.2): that of the first entry with it, even where only a later one has an IEEE address
 unfoldable pub ieeeOf : ℕ → List NwkNeighbor → OptionalIeee
@@ -45,15 +39,16 @@ ieeeOf a es = knownIeee (found a es)
 
 -- An entry with a change
 
-abbrev pub withIeee : IeeeAddress → NwkNeighbor → NwkNeighbor
-withIeee a e =
+-- with another IEEE address and relationship
+abbrev known : IeeeAddress → ℕ → NwkNeighbor → NwkNeighbor
+known ieee relationship e =
     record {
-      «extended_address» = a;
+      «extended_address» = ieee;
       «network_address» = e .«network_address»;
       «device_type» = e .«device_type»;
       «rx_on_when_idle» = e .«rx_on_when_idle»;
       «end_device_configuration» = e .«end_device_configuration»;
-      relationship = e .relationship;
+      relationship = relationship;
       lqi = e .lqi;
       «outgoing_cost» = e .«outgoing_cost»;
       age = e .age;
@@ -69,29 +64,11 @@ withIeee a e =
       «pan_id» = e .«pan_id»;
     }
 
+abbrev pub withIeee : IeeeAddress → NwkNeighbor → NwkNeighbor
+withIeee a e = known a (e .relationship) e
+
 abbrev pub withRelationship : ℕ → NwkNeighbor → NwkNeighbor
-withRelationship r e =
-    record {
-      «extended_address» = e .«extended_address»;
-      «network_address» = e .«network_address»;
-      «device_type» = e .«device_type»;
-      «rx_on_when_idle» = e .«rx_on_when_idle»;
-      «end_device_configuration» = e .«end_device_configuration»;
-      relationship = r;
-      lqi = e .lqi;
-      «outgoing_cost» = e .«outgoing_cost»;
-      age = e .age;
-      «keepalive_received» = e .«keepalive_received»;
-      «extended_pan_id» = e .«extended_pan_id»;
-      «logical_channel» = e .«logical_channel»;
-      depth = e .depth;
-      «permit_joining» = e .«permit_joining»;
-      «potential_parent» = e .«potential_parent»;
-      «router_capacity» = e .«router_capacity»;
-      «end_device_capacity» = e .«end_device_capacity»;
-      «update_id» = e .«update_id»;
-      «pan_id» = e .«pan_id»;
-    }
+withRelationship r e = known (e .«extended_address») r e
 
 -- no longer a potential parent
 abbrev pub withoutPotential : NwkNeighbor → NwkNeighbor
@@ -147,14 +124,14 @@ cleared e =
 
 -- the IEEE address of a neighbour as a number: 0 where there is none
 abbrev pub ieeeNumber : Neighbor → IeeeAddress
-ieeeNumber Absent = record { 0 = 0 }
-ieeeNumber (Entry e) = e .«extended_address»
+ieeeNumber Neighbor.Absent = record { 0 = 0 }
+ieeeNumber (Neighbor.Entry e) = e .«extended_address»
 
 -- a neighbour as commands are addressed to it: with the IEEE address of the first entry with its short address, and not its own
 -- (`build_nwk_command_frame` of the source; Zigbee 3.4.6.2 and 3.4.11.2)
 abbrev pub seenIn : List NwkNeighbor → Neighbor → Neighbor
-seenIn es Absent = Absent
-seenIn es (Entry e) = Entry (withIeee (ieeeNumber (found (e .«network_address» .0) es)) e)
+seenIn es Neighbor.Absent = Neighbor.Absent
+seenIn es (Neighbor.Entry e) = Neighbor.Entry (withIeee (ieeeNumber (found (e .«network_address» .0) es)) e)
 
 -- Writing
 
@@ -185,18 +162,3 @@ potentialClearedAt i es = changeAt i withoutPotential es
 -- a leave removes every entry of an address (01, "Received frame"; Zigbee 3.6.1.10.3)
 unfoldable pub retained : ℕ → List NwkNeighbor → List NwkNeighbor
 retained a es = select (λ e. not (hasAddress a e)) es
-
--- What the private enums of the code stand for. No public promise uses them
-
-abbrev pub hasWanted : Wanted → ℕ → ℕ → Bool
-hasWanted (Address a) address relationship = eqb address (a .0)
-hasWanted Parent address relationship = eqb relationship PARENT
-
-abbrev pub isWanted : Wanted → NwkNeighbor → Bool
-isWanted wanted e = hasWanted wanted (e .«network_address» .0) (e .relationship)
-
-abbrev pub changed : Change → NwkNeighbor → NwkNeighbor
-changed (ExtendedAddress a) = withIeee a
-changed (Relationship r) = withRelationship r
-changed NoPotentialParent = withoutPotential
-changed NoBeaconFields = cleared

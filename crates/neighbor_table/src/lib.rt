@@ -1,10 +1,12 @@
 // What calls read in the neighbour table and what they write to it.
 ghost use mathlib.Core.Path.{_≡_};
+ghost use mathlib.Core.Bool.{cond};
 ghost use mathlib.Core.List.{map};
 ghost use Rattle.lists.specs.Lists.{firstIndex, changeAt};
 ghost use Rattle.nib.specs.declared.Neighbor.the-variants.{Entry};
-ghost use Rattle.nib.specs.Neighbors.{entriesOf, entryAt, tableOf};
-ghost use Rattle.neighbor_table.specs.NeighborTable.{found, knownIeee, withIeee, ieeeNumber, seenIn, parentOf, ieeeOf, onEntries, learnt, marked, adopted, allCleared, potentialClearedAt, retained, hasWanted, isWanted, cleared, changed};
+ghost use Rattle.nib.specs.Neighbors.{entriesOf, tableOf};
+ghost use Rattle.neighbor_table.specs.NeighborTable.{hasAddress, isParent, found, knownIeee, withIeee, ieeeNumber, seenIn, parentOf, ieeeOf, onEntries, learnt, marked, adopted, allCleared, potentialClearedAt, retained};
+ghost use Rattle.neighbor_table.specs.Steps.{changed};
 use nib::ExtendedPanId;
 use nib::IeeeAddress;
 use nib::Neighbor;
@@ -14,34 +16,15 @@ use nib::OptionalIeee;
 use nib::PanId;
 use nib::ShortAddress;
 
-// What the entry that is looked for has: a short address, or relationship PARENT.
-enum Wanted {
-    Address(ShortAddress),
-    Parent,
-}
-
-fn is_wanted(address: u16, relationship: u8, wanted: Wanted) -> bool
-    ensures { λ r. ⌜ r ≡ hasWanted wanted address relationship ⌝ }
-{
-    match wanted {
-        Wanted::Address(a) => return address == a.0,
-        Wanted::Parent => return relationship == nib::relationship::PARENT,
-    }
-}
-
-// The index of the first entry that is wanted, or the number of entries where none is.
-fn first(table: NeighborTable, wanted: Wanted) -> u8
-    ensures { λ r. ⌜ r ≡ firstIndex (isWanted wanted) (entriesOf table) ⌝ }
+// The index of the first entry with a short address, or the number of entries where none has it.
+fn first(table: NeighborTable, address: ShortAddress) -> u8
+    ensures { λ r. ⌜ r ≡ firstIndex (hasAddress (address .0)) (entriesOf table) ⌝ }
 {
     let count = table.len();
     let mut i = 0;
     while i < count {
         let at = i as usize;
-        if is_wanted(
-            table.entries[at].network_address.0,
-            table.entries[at].relationship,
-            wanted,
-        ) {
+        if table.entries[at].network_address.0 == address.0 {
             return i;
         }
         i += 1;
@@ -49,16 +32,26 @@ fn first(table: NeighborTable, wanted: Wanted) -> u8
     count
 }
 
-// The first entry that is wanted.
-fn look_for(table: NeighborTable, wanted: Wanted) -> Neighbor
-    ensures { λ r. ⌜ r ≡ entryAt (entriesOf table) (firstIndex (isWanted wanted) (entriesOf table)) ⌝ }
+// Whether an entry has relationship PARENT, or else a short address.
+fn is_wanted(e: NwkNeighbor, parent: bool, address: ShortAddress) -> bool
+    ensures { λ r. ⌜ r ≡ cond parent (isParent e) (hasAddress (address .0) e) ⌝ }
+{
+    if parent {
+        return e.relationship == nib::relationship::PARENT;
+    }
+    e.network_address.0 == address.0
+}
+
+// The parent, or else the first entry with a short address.
+fn look_for(table: NeighborTable, parent: bool, address: ShortAddress) -> Neighbor
+    ensures { λ r. ⌜ r ≡ cond parent (parentOf (entriesOf table)) (found (address .0) (entriesOf table)) ⌝ }
 {
     let count = table.len();
     let mut i = 0;
     while i < count {
         let at = i as usize;
         let e = table.entries[at];
-        if is_wanted(e.network_address.0, e.relationship, wanted) {
+        if is_wanted(e, parent, address) {
             return Neighbor::Entry(e);
         }
         i += 1;
@@ -70,14 +63,14 @@ fn look_for(table: NeighborTable, wanted: Wanted) -> Neighbor
 fn find(table: NeighborTable, address: ShortAddress) -> Neighbor
     ensures { λ r. ⌜ r ≡ found (address .0) (entriesOf table) ⌝ }
 {
-    look_for(table, Wanted::Address(address))
+    look_for(table, false, address)
 }
 
 // The parent: the first entry with relationship PARENT.
 pub fn parent(table: NeighborTable) -> Neighbor
     ensures { λ r. ⌜ r ≡ parentOf (entriesOf table) ⌝ }
 {
-    look_for(table, Wanted::Parent)
+    look_for(table, true, ShortAddress(0))
 }
 
 // The IEEE address of a neighbour, where it is known.
@@ -208,7 +201,7 @@ pub fn learn_neighbor_ieee_address(
 ) -> NeighborTable
     ensures { λ r. ⌜ r ≡ onEntries (learnt (source .0) ieee) table ⌝ }
 {
-    let index = first(table, Wanted::Address(source));
+    let index = first(table, source);
     change_at(table, index, Change::ExtendedAddress(ieee))
 }
 

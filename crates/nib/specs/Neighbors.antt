@@ -8,9 +8,7 @@ use Rattle.lists.specs.Lists.{over}
 use Rattle.nib.specs.declared.NwkNeighbor.{NwkNeighbor}
 use Rattle.nib.specs.declared.NeighborTable.{NeighborTable}
 use Rattle.nib.specs.declared.Neighbor.{Neighbor}
-use Rattle.nib.specs.declared.Neighbor.the-variants.{Absent, Entry}
 use Rattle.nib.specs.declared.DeviceType.{DeviceType}
-use Rattle.nib.specs.declared.DeviceType.the-variants.{Coordinator, Router}
 
 -- the relationships PARENT and NONE (01, "Join request and confirm", "Neighbour entry"; Zigbee Table 3-63)
 abbrev pub PARENT : ℕ
@@ -21,7 +19,7 @@ NONE = 3
 
 -- the sender at 0x0000 is the coordinator; any other that sends a beacon is a router (Zigbee Table 3-63)
 unfoldable pub deviceType : ℕ → DeviceType
-deviceType address = cond (eqb address 0x0000) Coordinator Router
+deviceType address = cond (eqb address 0x0000) DeviceType.Coordinator DeviceType.Router
 
 -- the entries in use: as many as the count says, all 16 where it says more
 abbrev pub entriesOf : NeighborTable → List NwkNeighbor
@@ -33,7 +31,7 @@ blank =
     record {
       «extended_address» = record { 0 = 0 };
       «network_address» = record { 0 = 0 };
-      «device_type» = Coordinator;
+      «device_type» = DeviceType.Coordinator;
       «rx_on_when_idle» = false;
       «end_device_configuration» = 0;
       relationship = 0;
@@ -58,7 +56,7 @@ tableOf l = record { entries = over (replicate 16 blank) l; count = length l }
 
 -- the entry at an index, or none past the end
 abbrev pub entryAt : List NwkNeighbor → ℕ → Neighbor
-entryAt es i = cond (ltb i (length es)) (Entry (getD es i blank)) Absent
+entryAt es i = cond (ltb i (length es)) (Neighbor.Entry (getD es i blank)) Neighbor.Absent
 
 -- one entry more behind those in use; a full table stays
 unfoldable pub pushed : NeighborTable → NwkNeighbor → NeighborTable

@@ -4,7 +4,6 @@ use mathlib.Core.Bool.{Bool, true, cond}
 use Rattle.nib.specs.declared.ShortAddress.{ShortAddress}
 use Rattle.nib.specs.declared.NwkNeighbor.{NwkNeighbor}
 use Rattle.nib.specs.declared.Neighbor.{Neighbor}
-use Rattle.nib.specs.declared.Neighbor.the-variants.{Absent, Entry}
 use Rattle.nib.specs.declared.OptionalIeee.{OptionalIeee}
 use Rattle.neighbor_table.specs.NeighborTable.{knownIeee}
 use Rattle.parent_timer.specs.Timer.{ticked}
@@ -13,12 +12,11 @@ use Rattle.supervision.specs.declared.FailedSend.{FailedSend}
 use Rattle.supervision.specs.Timeouts as timeouts
 use Rattle.supervision.specs.Failures.{pairRemoved, transmitFailed}
 use Rattle.management.specs.Signals.{withStatusIndication}
-use Rattle.management.specs.declared.SendAnswer.the-variants.{SendOk, SendMacError, SendParentLinkFailure}
-use Rattle.management.specs.declared.StatusIndicationSlot.the-variants.{HasStatusIndication}
+use Rattle.management.specs.declared.SendAnswer.{SendAnswer}
+use Rattle.management.specs.declared.StatusIndicationSlot.{StatusIndicationSlot}
 use Rattle.frame.specs.Frame.{nextSeq}
 use Rattle.frame.specs.declared.CommandHeader.{CommandHeader}
 use Rattle.frame.specs.declared.SentFrame.{SentFrame}
-use Rattle.frame.specs.declared.SentFrame.the-variants.{TimeoutRequest}
 use Rattle.nlme.specs.declared.Nlme.{Nlme}
 use Rattle.nlme.specs.declared.NlmeTicked.{NlmeTicked}
 use Rattle.nlme.specs.declared.ViaParent.{ViaParent}
@@ -28,12 +26,12 @@ use Rattle.nlme.specs.Fields.{withNib, withSeq, withPending, withTimer, 
 
 -- "the parent's short address" (01, "Supervision record" and "Two nodes"): the one that a signal carries, 0xffff where there is no parent
 abbrev pub parentAddress : Neighbor → ShortAddress
-parentAddress Absent = record { 0 = 0xffff }
-parentAddress (Entry e) = e .«network_address»
+parentAddress Neighbor.Absent = record { 0 = 0xffff }
+parentAddress (Neighbor.Entry e) = e .«network_address»
 
 -- the signal ParentLinkFailure (01, "Supervision record"; Zigbee 3.2.2.32): the slot has the parent's short address
 unfoldable pub linkFailure : Neighbor → Nlme → Nlme
-linkFailure parent n = withSignals (withStatusIndication (HasStatusIndication (record { «network_address» = parentAddress parent })) (n .signals)) n
+linkFailure parent n = withSignals (withStatusIndication (StatusIndicationSlot.HasStatusIndication (record { «network_address» = parentAddress parent })) (n .signals)) n
 
 -- the timer restarted at the negotiated timeout; 0 where there is none (Zigbee 3.6.10.6)
 unfoldable pub refreshed : Nlme → Nlme
@@ -69,7 +67,7 @@ timeoutRequested parent n =
     record {
       nlme = withPending (n .nib .«end_device_timeout_default») (seqUsed n);
       transmission = transmission n (parent .«network_address»)
-          (TimeoutRequest (commandHeader n (parent .«network_address») (knownIeee (Entry parent)) true) (n .nib .«end_device_timeout_default»));
+          (SentFrame.TimeoutRequest (commandHeader n (parent .«network_address») (knownIeee (Neighbor.Entry parent)) true) (n .nib .«end_device_timeout_default»));
     }
 
 -- the tick (01, "Supervision record"; Zigbee 3.6.10.6): expiry signals ParentLinkFailure
@@ -87,13 +85,13 @@ nlmeTicked parent elapsed n = expirySignalled parent n (ticked (n .«parent_time
 -- a failure counts, and the third signals ParentLinkFailure
 unfoldable pub sentViaParent : Neighbor → Nlme → ViaParent
 sentViaParent parent n =
-    record { nlme = refreshed (withFailures (pairRemoved (n .«transmit_failures») (parentAddress parent)) n); answer = SendOk }
+    record { nlme = refreshed (withFailures (pairRemoved (n .«transmit_failures») (parentAddress parent)) n); answer = SendAnswer.SendOk }
 
 unfoldable pub failureCounted : Neighbor → Nlme → FailedSend → ViaParent
 failureCounted parent n f =
     record {
       nlme = cond (f .«link_failed») (linkFailure parent (withFailures (f .failures) n)) (withFailures (f .failures) n);
-      answer = cond (f .«link_failed») SendParentLinkFailure SendMacError;
+      answer = cond (f .«link_failed») SendAnswer.SendParentLinkFailure SendAnswer.SendMacError;
     }
 
 abbrev pub failedViaParent : Neighbor → Nlme → ViaParent

@@ -1,3 +1,3 @@
 -- The laws of `node`.
-pub mod Guards
-pub mod Closing
+pub mod TurnedDown
+pub mod Writes

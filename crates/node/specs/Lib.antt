@@ -2,5 +2,3 @@
 pub mod Looks
 pub mod Refusals
 pub mod Calls
-pub mod Parts
-pub mod Runs

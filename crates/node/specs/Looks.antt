@@ -1,5 +1,5 @@
--- What a call looks at in a state, and what a decision writes to it.
-use mathlib.Core.Bool.{Bool, cond}
+-- What a call looks at in a state, what a decision writes to it, and the answer that is made of both.
+use mathlib.Core.Bool.{Bool, true, false, cond}
 use mathlib.Core.List.{List}
 use lib.ListN.{length}
 use Rattle.nib.specs.Neighbors.{entriesOf}
@@ -57,12 +57,21 @@ unfoldable pub potentialCleared : Bool → State → State
 potentialCleared b s = cond b (withTable (onEntries (potentialClearedTried (s .candidates)) (s .table)) s) s
 
 -- a decision carried out; `reset` is the reset note (01, "Received frame")
+abbrev pub answered : Bool → State → Decision → Answer
+answered reset s d =
+    record { state = withControl (d .control) s; reset = reset; note = d .note; step = d .step; «polls_used» = d .«polls_used» }
+
 unfoldable pub finish : Bool → State → Decision → Answer
-finish reset s d =
-    record {
-      state = withControl (d .control) (moved (d .candidate) (potentialCleared (d .«clear_potential_parent») s));
-      reset = reset;
-      note = d .note;
-      step = d .step;
-      «polls_used» = d .«polls_used»;
-    }
+finish reset s d = answered reset (moved (d .candidate) (potentialCleared (d .«clear_potential_parent») s)) d
+
+-- a decision that writes nothing to the table or the candidates
+abbrev pub still : Bool → Move → Bool
+still true m = false
+still false Stay = true
+still false TakeNext = false
+still false AdoptNext = false
+still false JoinTried = false
+
+-- a decision with no reset note
+abbrev pub deciding : State → Decision → Answer
+deciding s d = finish false s d

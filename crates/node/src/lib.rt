@@ -1,18 +1,19 @@
 // A node's state, and every call that can be made on it.
 ghost use mathlib.Core.Path.{_≡_};
-ghost use mathlib.Core.Bool.{true, false};
-ghost use lib.Dec.{eqb};
-ghost use Rattle.operation.specs.Operation.{awaited};
-ghost use Rattle.node.specs.Looks.{withControl, withTable, withCandidates, parent, next, moved, potentialCleared, finish};
-ghost use Rattle.node.specs.Refusals.{refuse, bad, startOrRefusal, otherOrRefusal};
-ghost use Rattle.node.specs.Calls.{deciding, startDiscovery, startJoin, startSend, startPoll, startReceive, startTimeout, scanned, associationOver, receptionOver, transmissionOver, tick, takeLeaveIndication, takeStatusIndication, choose};
-ghost use Rattle.node.specs.Parts.{tablesOf, withTables, refusalOf, closed, scanRefusal, scanDecided, nothingReceived, dealtOn, leftAfter};
+ghost use mathlib.Core.Bool.{true, false, cond, not};
+ghost use Rattle.operation.specs.Operation.{isIdle, associationFor};
+ghost use Rattle.node.specs.Looks.{moved, potentialCleared, answered, finish, still};
+ghost use Rattle.node.specs.Refusals.{refuse, pastIn, badBy, bad};
+ghost use Rattle.node.specs.Calls.{joinBy, associate, scanFailed, scanHeard, scanOver, confirmBy, scanned, continuing, goOn, changed, after, handledOn, taughtOn, processed, receptionOver, afterLeave, transmissionOver, answer, choose, discovery, join, send, poll, receive, timeout, scan, association, transmission, reception, elapsed, takeLeave, takeStatus};
+ghost use Rattle.mlme.specs.Mlme.{descriptorsOf};
 use candidates::CandidateList;
 use discovery::NlmeNetworkDiscoveryConfirm;
 use frame::ReceivedFrame;
 use join::AssociationOutcome;
 use management::NlmeJoinRequest;
+use management::NlmeJoinStatus;
 use management::PollAnswer;
+use management::RejoinNetwork;
 use management::ScanRange;
 use mlme::PanDescriptorList;
 use nib::ExtendedPanId;
@@ -21,13 +22,20 @@ use nib::NeighborTable;
 use nib::ShortAddress;
 use operation::Control;
 use operation::Decision;
+use operation::Leaving;
 use operation::Move;
 use operation::Note;
+use operation::Operation;
 use operation::Phase;
+use operation::Purpose;
+use operation::RadioRequest;
+use operation::ScanFor;
 use operation::Step;
+use operation::TimeoutFor;
+use operation::TransmissionFor;
+use received::Handled;
+use received::TableChange;
 use received::Then;
-use receptions::FrameDecision;
-use steps::Tables;
 use tries::Candidates;
 
 pub struct State {
@@ -36,7 +44,7 @@ pub struct State {
     pub candidates: Candidates,
 }
 
-// What a call answers: the next state; the reset note of a leave (01, "Received frame"); what the radio is told; the request, confirm, answer or refusal; and the polls that the step used up.
+// What a call answers: the next state; the reset note of a leave (01, "Received frame"); what the radio is told; the request, confirm, answer or refusal; and the polls that the step used.
 pub struct Answer {
     pub state: State,
     pub reset: bool,
@@ -70,93 +78,136 @@ pub struct Choice {
     pub list: CandidateList,
 }
 
-// Parts of the state.
-impl State {
-    fn phase(self) -> Phase
-        ensures { λ r. ⌜ r ≡ self .control .operation .phase ⌝ }
-    {
-        let operation = self.control.operation;
-        operation.phase
-    }
-
-    // The kind of outcome that is awaited, 0 for none.
-    fn awaited(self) -> u8
-        ensures { λ r. ⌜ r ≡ awaited (self .control .operation .phase) ⌝ }
-    {
-        operation::awaited(self.phase())
-    }
-
-    fn tables(self) -> Tables
-        ensures { λ r. ⌜ r ≡ tablesOf self ⌝ }
-    {
-        let table = self.table;
-        let candidates = self.candidates;
-        Tables { table, candidates }
-    }
-
-    fn with_control(mut self, control: Control) -> State
-        ensures { λ r. ⌜ r ≡ withControl control self ⌝ }
-    {
-        self.control = control;
-        self
-    }
-
-    fn with_table(mut self, table: NeighborTable) -> State
-        ensures { λ r. ⌜ r ≡ withTable table self ⌝ }
-    {
-        self.table = table;
-        self
-    }
-
-    fn with_candidates(mut self, candidates: Candidates) -> State
-        ensures { λ r. ⌜ r ≡ withCandidates candidates self ⌝ }
-    {
-        self.candidates = candidates;
-        self
-    }
-
-    fn with_tables(self, tables: Tables) -> State
-        ensures { λ r. ⌜ r ≡ withTables tables self ⌝ }
-    {
-        self.with_table(tables.table)
-            .with_candidates(tables.candidates)
-    }
-
-    // The parent and the next candidate.
-    fn parent(self) -> Neighbor
-        ensures { λ r. ⌜ r ≡ parent self ⌝ }
-    {
-        tries::parent_seen(self.table)
-    }
-
-    fn next(self) -> Neighbor
-        ensures { λ r. ⌜ r ≡ next self ⌝ }
-    {
-        tries::next(self.table, self.candidates)
+// Whether an index being tried or still to be tried in an association is not below the neighbour count.
+fn is_past(phase: Phase, neighbors: u8, candidates: Candidates) -> bool
+    ensures { λ r. ⌜ r ≡ pastIn (associationFor phase) neighbors candidates ⌝ }
+{
+    match phase {
+        Phase::Idle => return false,
+        Phase::Scan(_) => return false,
+        Phase::Association => return tries::past_table(neighbors, candidates),
+        Phase::Transmission(_) => return false,
+        Phase::Reception(_) => return false,
     }
 }
 
-// A decision carried out, and when a call is turned down.
+// Refusal 5: a count is above 16, polls left above 20, or an association has an index past the table.
+fn is_bad_by(neighbors: u8, failures: u8, candidates: Candidates, operation: Operation) -> bool
+    ensures { λ r. ⌜ r ≡ badBy neighbors failures candidates operation ⌝ }
+{
+    if 16 < neighbors {
+        return true;
+    }
+    if 16 < failures {
+        return true;
+    }
+    if 16 < candidates.list.count {
+        return true;
+    }
+    if 16 < candidates.taken {
+        return true;
+    }
+    if 20 < operation.polls_left {
+        return true;
+    }
+    let phase = operation.phase;
+    is_past(phase, neighbors, candidates)
+}
+
+// When a call is turned down.
 impl State {
-    // What a decision writes to the table and the candidates.
-    fn written(self, clear: bool, candidate: Move) -> State
-        ensures { λ r. ⌜ r ≡ moved candidate (potentialCleared clear self) ⌝ }
+    fn refuse(self, refusal: u8) -> Answer
+        ensures { λ r. ⌜ r ≡ refuse refusal self ⌝ }
     {
-        if steps::writes(clear, candidate) {
-            return self.with_tables(steps::written(self.tables(), clear, candidate));
+        let step = Step::Refused(refusal);
+        Answer {
+            state: self,
+            reset: false,
+            note: Note::NoNote,
+            step,
+            polls_used: 0,
+        }
+    }
+
+    fn is_bad(self) -> bool
+        ensures { λ r. ⌜ r ≡ bad self ⌝ }
+    {
+        is_bad_by(
+            self.table.count,
+            self.control.nlme.transmit_failures.count,
+            self.candidates,
+            self.control.operation,
+        )
+    }
+
+    // The refusal of a start, 0 for none: 5, then 1 if an operation is under way.
+    fn start_refusal(self) -> u8
+        ensures { λ r. ⌜ r ≡ cond (bad self) 5 (cond (isIdle (self .control .operation .phase)) 0 1) ⌝ }
+    {
+        if self.is_bad() {
+            return 5;
+        }
+        let operation = self.control.operation;
+        let phase = operation.phase;
+        if operation::is_idle(phase) {
+            return 0;
+        }
+        1
+    }
+}
+
+// What a decision writes, and the answer.
+impl State {
+    // The candidate being tried is no longer a potential parent.
+    fn potential_cleared(mut self, clear: bool) -> State
+        ensures { λ r. ⌜ r ≡ potentialCleared clear self ⌝ }
+    {
+        if clear {
+            self.table = tries::clear_tried(self.table, self.candidates);
+            return self;
         }
         self
     }
 
-    fn carried_out(self, reset: bool, decision: Decision) -> Answer
-        ensures { λ r. ⌜ r ≡ finish reset self decision ⌝ }
+    // What a decision does with the candidates.
+    fn moved(mut self, candidate: Move) -> State
+        ensures { λ r. ⌜ r ≡ moved candidate self ⌝ }
     {
-        let candidate = decision.candidate;
-        let written = self.written(decision.clear_potential_parent, candidate);
+        match candidate {
+            Move::Stay => return self,
+            Move::TakeNext => {
+                self.candidates = tries::take_next(self.table, self.candidates);
+                return self;
+            }
+            Move::AdoptNext => {
+                self.table = tries::adopt_next(self.table, self.candidates);
+                self.candidates = tries::take_next(self.table, self.candidates);
+                return self;
+            }
+            Move::JoinTried => {
+                self.table = tries::join_tried(self.table, self.candidates);
+                return self;
+            }
+        }
+    }
+
+    // What a decision writes to the table and the candidates.
+    fn written(self, clear: bool, candidate: Move) -> State
+        ensures { λ r. ⌜ r ≡ moved candidate (potentialCleared clear self) ⌝ }
+    {
+        self.potential_cleared(clear).moved(candidate)
+    }
+
+    // The answer of a decision that is written but for its control part.
+    fn answered(mut self, reset: bool, decision: Decision) -> Answer
+        ensures { λ r. ⌜ r ≡ answered reset self decision ⌝ }
+    {
+        let control = decision.control;
+        self.control = control;
         let note = decision.note;
         let step = decision.step;
         Answer {
-            state: written.with_control(decision.control),
+            state: self,
             reset,
             note,
             step,
@@ -164,270 +215,481 @@ impl State {
         }
     }
 
-    fn refuse(self, refusal: u8) -> Answer
-        ensures { λ r. ⌜ r ≡ refuse refusal self ⌝ }
+    // A decision carried out.
+    fn carried_out(self, reset: bool, decision: Decision) -> Answer
+        ensures { λ r. ⌜ r ≡ finish reset self decision ⌝ }
     {
-        Answer {
-            state: self,
-            reset: false,
-            note: Note::NoNote,
-            step: Step::Refused(refusal),
-            polls_used: 0,
+        let candidate = decision.candidate;
+        if is_still(decision.clear_potential_parent, candidate) {
+            return self.answered(reset, decision);
         }
+        self.written(decision.clear_potential_parent, candidate)
+            .answered(reset, decision)
     }
+}
 
-    // Refusal 5: a count is above 16, polls left above 20, or an association has an index past the table.
-    fn is_bad(self) -> bool
-        ensures { λ r. ⌜ r ≡ bad self ⌝ }
-    {
-        if 16 < self.table.count {
-            return true;
-        }
-        if 16 < self.control.nlme.transmit_failures.count {
-            return true;
-        }
-        if 16 < self.candidates.list.count {
-            return true;
-        }
-        if 16 < self.candidates.taken {
-            return true;
-        }
-        if 20 < self.control.operation.polls_left {
-            return true;
-        }
-        if self.awaited() != 2 {
-            return false;
-        }
-        tries::past_table(self.table.count, self.candidates)
+// Whether a decision leaves the table and the candidates as they are.
+fn is_still(clear: bool, candidate: Move) -> bool
+    ensures { λ r. ⌜ r ≡ still clear candidate ⌝ }
+{
+    if clear {
+        return false;
     }
-
-    // 5, then another refusal unless the kind of outcome that a call goes with is awaited; 0 where the call is not turned down.
-    fn refusal(self, kind: u8, otherwise: u8) -> u8
-        ensures { λ r. ⌜ r ≡ refusalOf (eqb (awaited (self .control .operation .phase)) kind) otherwise self ⌝ }
-    {
-        if self.is_bad() {
-            return 5;
-        }
-        if self.awaited() == kind {
-            return 0;
-        }
-        otherwise
-    }
-
-    // A call is turned down, or its decision is carried out on a changed state.
-    fn closed(self, refusal: u8, changed: State, reset: bool, decision: Decision) -> Answer
-        ensures { λ r. ⌜ r ≡ closed refusal self (finish reset changed decision) ⌝ }
-    {
-        if refusal != 0 {
-            return self.refuse(refusal);
-        }
-        changed.carried_out(reset, decision)
-    }
-
-    // A start, which goes with no outcome.
-    fn starting(self, changed: State, decision: Decision) -> Answer
-        ensures { λ r. ⌜ r ≡ startOrRefusal self (deciding changed decision) ⌝ }
-    {
-        self.closed(self.refusal(0, 1), changed, false, decision)
-    }
-
-    // A tick or a taking.
-    fn always(self, decision: Decision) -> Answer
-        ensures { λ r. ⌜ r ≡ otherOrRefusal self (deciding self decision) ⌝ }
-    {
-        if self.is_bad() {
-            return self.refuse(5);
-        }
-        self.carried_out(false, decision)
+    match candidate {
+        Move::Stay => return true,
+        Move::TakeNext => return false,
+        Move::AdoptNext => return false,
+        Move::JoinTried => return false,
     }
 }
 
 // Starts.
 impl State {
     pub fn start_discovery(self, range: ScanRange) -> Answer
-        ensures { λ r. ⌜ r ≡ startDiscovery range self ⌝ }
+        ensures { λ r. ⌜ r ≡ answer self (discovery range) ⌝ }
     {
-        self.starting(self, starts::discovery_started(range, self.control))
+        let refusal = self.start_refusal();
+        if refusal != 0 {
+            return self.refuse(refusal);
+        }
+        let request = RadioRequest::Scan(range);
+        let decision = operation::asking(Phase::Scan(ScanFor::Discovery), request, self.control);
+        self.carried_out(false, decision)
+    }
+
+    // An association: the candidates are chosen from the present table, and the first is tried.
+    fn associate(mut self, request: NlmeJoinRequest) -> Answer
+        ensures { λ r. ⌜ r ≡ associate request self ⌝ }
+    {
+        if self.control.nlme.nib.network_address.0 != nib::NWK_UNASSIGNED_ADDRESS {
+            return self.carried_out(
+                false,
+                join::failing(NlmeJoinStatus::InvalidRequest, self.control),
+            );
+        }
+        self.candidates = tries::chosen(
+            self.table,
+            self.control.nlme.nib.stack_profile,
+            true,
+            request.extended_pan_id,
+            request.capability_information,
+        );
+        let next = tries::next(self.table, self.candidates);
+        let decision = join::join_started(self.control, request.capability_information, next);
+        self.carried_out(false, decision)
+    }
+
+    fn join_by(self, request: NlmeJoinRequest) -> Answer
+        ensures { λ r. ⌜ r ≡ joinBy (request .«rejoin_network») request self ⌝ }
+    {
+        let kind = request.rejoin_network;
+        match kind {
+            RejoinNetwork::Association => return self.associate(request),
+            RejoinNetwork::NwkRejoin => {
+                let parent = tries::parent_seen(self.table);
+                let decision = rejoin::rejoin_started(self.control, request, parent);
+                return self.carried_out(false, decision);
+            }
+            RejoinNetwork::Orphan => {
+                let decision = join::failing(NlmeJoinStatus::InvalidRequest, self.control);
+                return self.carried_out(false, decision);
+            }
+            RejoinNetwork::ChannelChange => {
+                let decision = join::failing(NlmeJoinStatus::InvalidRequest, self.control);
+                return self.carried_out(false, decision);
+            }
+        }
     }
 
     pub fn join(self, request: NlmeJoinRequest) -> Answer
-        ensures { λ r. ⌜ r ≡ startJoin request self ⌝ }
+        ensures { λ r. ⌜ r ≡ answer self (join request) ⌝ }
     {
-        let candidates = starts::for_join(request, self.table, self.candidates, self.control);
-        let changed = self.with_candidates(candidates);
-        let decision = starts::join_asked(request, self.parent(), changed.next(), self.control);
-        self.starting(changed, decision)
+        let refusal = self.start_refusal();
+        if refusal != 0 {
+            return self.refuse(refusal);
+        }
+        self.join_by(request)
     }
 
     pub fn send_data(self, destination: ShortAddress, secure: bool) -> Answer
-        ensures { λ r. ⌜ r ≡ startSend destination secure self ⌝ }
+        ensures { λ r. ⌜ r ≡ answer self (send destination secure) ⌝ }
     {
-        let decision = exchange::send_started(self.control, destination, secure, self.parent());
-        self.starting(self, decision)
+        let refusal = self.start_refusal();
+        if refusal != 0 {
+            return self.refuse(refusal);
+        }
+        let parent = tries::parent_seen(self.table);
+        let decision = exchange::send_started(self.control, destination, secure, parent);
+        self.carried_out(false, decision)
     }
 
     pub fn poll(self) -> Answer
-        ensures { λ r. ⌜ r ≡ startPoll self ⌝ }
+        ensures { λ r. ⌜ r ≡ answer self poll ⌝ }
     {
-        self.starting(self, exchange::poll_started(self.control, self.parent()))
+        let refusal = self.start_refusal();
+        if refusal != 0 {
+            return self.refuse(refusal);
+        }
+        let parent = tries::parent_seen(self.table);
+        self.carried_out(false, exchange::poll_started(self.control, parent))
     }
 
     pub fn receive(self) -> Answer
-        ensures { λ r. ⌜ r ≡ startReceive self ⌝ }
+        ensures { λ r. ⌜ r ≡ answer self receive ⌝ }
     {
-        self.starting(self, exchange::receive_started(self.control))
+        let refusal = self.start_refusal();
+        if refusal != 0 {
+            return self.refuse(refusal);
+        }
+        self.carried_out(false, exchange::receive_started(self.control))
+    }
+
+    // The start of a negotiation or a keepalive.
+    fn start_timeout(self, purpose: TimeoutFor) -> Answer
+        ensures { λ r. ⌜ r ≡ answer self (timeout purpose) ⌝ }
+    {
+        let refusal = self.start_refusal();
+        if refusal != 0 {
+            return self.refuse(refusal);
+        }
+        let parent = tries::parent_seen(self.table);
+        let decision = negotiation::timeout_started(self.control, purpose, parent);
+        self.carried_out(false, decision)
     }
 
     pub fn negotiate_end_device_timeout(self) -> Answer
-        ensures { λ r. ⌜ r ≡ startTimeout false self ⌝ }
+        ensures { λ r. ⌜ r ≡ answer self (timeout TimeoutFor.Negotiation) ⌝ }
     {
-        let decision = negotiation::timeout_started(self.control, false, self.parent());
-        self.starting(self, decision)
+        self.start_timeout(TimeoutFor::Negotiation)
     }
 
     pub fn send_timeout_request_keepalive(self) -> Answer
-        ensures { λ r. ⌜ r ≡ startTimeout true self ⌝ }
+        ensures { λ r. ⌜ r ≡ answer self (timeout TimeoutFor.Keepalive) ⌝ }
     {
-        let decision = negotiation::timeout_started(self.control, true, self.parent());
-        self.starting(self, decision)
+        self.start_timeout(TimeoutFor::Keepalive)
     }
 }
 
 // The outcome of a scan.
 impl State {
-    fn scan_refusal(self, failed: bool, list: PanDescriptorList) -> u8
-        ensures { λ r. ⌜ r ≡ scanRefusal failed list self ⌝ }
+    fn scan_failed(self, purpose: ScanFor) -> Answer
+        ensures { λ r. ⌜ r ≡ scanFailed purpose self ⌝ }
     {
-        let earlier = self.refusal(1, 2);
-        if earlier != 0 {
-            return earlier;
+        match purpose {
+            ScanFor::Discovery => {
+                let decision = operation::ending(Step::DiscoveryFailed, self.control);
+                return self.carried_out(false, decision);
+            }
+            ScanFor::Rejoin => {
+                let decision = join::failing(NlmeJoinStatus::MacError, self.control);
+                return self.carried_out(false, decision);
+            }
         }
-        if failed {
-            return 0;
-        }
-        scans::list_refusal(list)
     }
 
-    fn scan_decided(self, refusal: u8, failed: bool, list: PanDescriptorList) -> Answer
-        ensures { λ r. ⌜ r ≡ scanDecided refusal failed list self ⌝ }
+    // The table is made from the scan: a discovery ends, a rejoin goes on to its candidates.
+    fn scan_heard(mut self, purpose: ScanFor) -> Answer
+        ensures { λ r. ⌜ r ≡ scanHeard purpose self ⌝ }
     {
-        let tables = scans::after_scan(failed, list, self.tables(), self.control);
-        let changed = self.with_tables(tables);
-        let decision = starts::scan_over(failed, changed.next(), self.control);
-        self.closed(refusal, changed, false, decision)
+        match purpose {
+            ScanFor::Discovery => {
+                let decision = operation::ending(Step::Discovered, self.control);
+                return self.carried_out(false, decision);
+            }
+            ScanFor::Rejoin => {
+                self.candidates = tries::chosen(
+                    self.table,
+                    self.control.nlme.nib.stack_profile,
+                    false,
+                    self.control.operation.extended_pan_id,
+                    self.control.nlme.nib.capability_information,
+                );
+                let next = tries::next(self.table, self.candidates);
+                let decision = rejoin::try_next(NlmeJoinStatus::NotPermitted, next, self.control);
+                return self.carried_out(false, decision);
+            }
+        }
+    }
+
+    // Of a scan that has failed no list is looked at; a list that is too long is turned down.
+    fn scan_listed(mut self, purpose: ScanFor, outcome: ScanOutcome) -> Answer
+        ensures { λ r. ⌜ r ≡ scanOver outcome purpose self ⌝ }
+    {
+        if outcome.failed {
+            return self.scan_failed(purpose);
+        }
+        let list = outcome.list;
+        if 27 < list.count {
+            return self.refuse(3);
+        }
+        if 16 < discovery::short_addressed(list) {
+            return self.refuse(4);
+        }
+        self.table = discovery::neighbor_table_from(list);
+        self.scan_heard(purpose)
+    }
+
+    fn scan_answer(self, outcome: ScanOutcome) -> Answer
+        ensures { λ r. ⌜ r ≡ answer self (scan outcome) ⌝ }
+    {
+        if self.is_bad() {
+            return self.refuse(5);
+        }
+        let operation = self.control.operation;
+        let phase = operation.phase;
+        let Phase::Scan(purpose) = phase else {
+            return self.refuse(2);
+        };
+        self.scan_listed(purpose, outcome)
     }
 
     pub fn scan_over(self, outcome: ScanOutcome) -> ScanAnswer
         ensures { λ r. ⌜ r ≡ scanned outcome self ⌝ }
     {
-        let failed = outcome.failed;
-        let list = outcome.list;
-        let refusal = self.scan_refusal(failed, list);
-        let confirm = scans::confirm_of(self.phase(), refusal, failed, list);
-        let answer = self.scan_decided(refusal, failed, list);
+        let answer = self.scan_answer(outcome);
+        let step = answer.step;
+        let confirm = confirm_by(step, outcome.list);
         ScanAnswer { answer, confirm }
     }
 }
 
-// The outcomes of an association, of a poll or a receive, and of a transmission.
+// The confirm of a discovery that has heard; with any other answer it is empty.
+fn confirm_by(step: Step, list: PanDescriptorList) -> NlmeNetworkDiscoveryConfirm
+    ensures { λ r. ⌜ r ≡ confirmBy step (descriptorsOf list) ⌝ }
+{
+    if operation::is_discovered(step) {
+        return discovery::network_descriptors(list);
+    }
+    discovery::no_networks()
+}
+
+// The outcomes of an association, and of a poll or a receive.
 impl State {
     pub fn association_over(self, outcome: AssociationOutcome) -> Answer
-        ensures { λ r. ⌜ r ≡ associationOver outcome self ⌝ }
+        ensures { λ r. ⌜ r ≡ answer self (association outcome) ⌝ }
     {
+        if self.is_bad() {
+            return self.refuse(5);
+        }
+        let operation = self.control.operation;
+        let phase = operation.phase;
+        let Phase::Association = phase else {
+            return self.refuse(2);
+        };
         let tried = tries::tried(self.table, self.candidates);
-        let decision = join::association_over(self.control, outcome, tried, self.next());
-        self.closed(self.refusal(2, 2), self, false, decision)
+        let next = tries::next(self.table, self.candidates);
+        let decision = join::association_over(self.control, outcome, tried, next);
+        self.carried_out(false, decision)
     }
 
-    fn nothing_received(self, answer: PollAnswer) -> Answer
-        ensures { λ r. ⌜ r ≡ nothingReceived answer self ⌝ }
+    // What a poll or a receive was for goes on.
+    fn goes_on(self, reset: bool, purpose: Purpose, answer: PollAnswer) -> Answer
+        ensures { λ r. ⌜ r ≡ goOn reset purpose answer self ⌝ }
     {
-        let then = Then::Over(answer);
-        let decision = receptions::reception_over(then, self.parent(), self.next(), self.control);
-        self.closed(self.refusal(4, 2), self, false, decision)
+        let parent = tries::parent_seen(self.table);
+        let next = tries::next(self.table, self.candidates);
+        let decision = continuing(purpose, answer, parent, next, self.control);
+        self.carried_out(reset, decision)
     }
 
-    fn dealt_with(self, dealt: FrameDecision) -> Answer
-        ensures { λ r. ⌜ r ≡ dealtOn dealt self ⌝ }
+    // What a frame does to the table.
+    fn changed(mut self, change: TableChange) -> State
+        ensures { λ r. ⌜ r ≡ changed change self ⌝ }
     {
-        let decision = dealt.decision;
-        self.closed(
-            self.refusal(4, 2),
-            self.with_table(dealt.table),
-            false,
-            decision,
-        )
+        match change {
+            TableChange::KeepTable => return self,
+            TableChange::RemoveNeighbor(address) => {
+                self.table = neighbor_table::retain(self.table, address);
+                return self;
+            }
+        }
     }
 
-    pub fn reception_over(self, outcome: ReceptionOutcome) -> Answer
-        ensures { λ r. ⌜ r ≡ receptionOver outcome self ⌝ }
+    // A frame is dealt with: the poll goes on, or a leave is announced first.
+    fn after(self, purpose: Purpose, then: Then) -> Answer
+        ensures { λ r. ⌜ r ≡ after purpose then self ⌝ }
+    {
+        match then {
+            Then::Over(answer) => return self.goes_on(false, purpose, answer),
+            Then::Announce(frame, rejoin) => {
+                let leave = TransmissionFor::Leave(Leaving { purpose, rejoin });
+                let decision = operation::transmit(Phase::Transmission(leave), frame, self.control);
+                return self.carried_out(false, decision);
+            }
+        }
+    }
+
+    fn dealt_with(mut self, purpose: Purpose, handled: Handled) -> Answer
+        ensures { λ r. ⌜ r ≡ handledOn purpose handled self ⌝ }
+    {
+        self.control = operation::with_nlme(self.control, handled.nlme);
+        let change = handled.change;
+        let then = handled.then;
+        self.changed(change).after(purpose, then)
+    }
+
+    // A frame is dealt with once it has taught the table.
+    fn frame_received(mut self, purpose: Purpose, frame: ReceivedFrame) -> Answer
+        ensures { λ r. ⌜ r ≡ processed purpose frame (taughtOn frame self) ⌝ }
+    {
+        self.table = received::learn_neighbor(self.table, frame);
+        let parent = tries::parent_seen(self.table);
+        let everyone = ShortAddress(nib::NWK_BROADCAST_ALL);
+        let broadcast = neighbor_table::neighbor_ieee_address(self.table, everyone);
+        let handled = received::process_received_nwk_frame(
+            self.control.nlme,
+            parent,
+            broadcast,
+            frame,
+        );
+        self.dealt_with(purpose, handled)
+    }
+
+    fn received(self, purpose: Purpose, outcome: ReceptionOutcome) -> Answer
+        ensures { λ r. ⌜ r ≡ receptionOver outcome purpose self ⌝ }
     {
         match outcome {
             ReceptionOutcome::NoData => {
-                return self.nothing_received(receptions::no_data_in(self.phase()));
+                return self.goes_on(false, purpose, exchange::no_data(purpose));
             }
             ReceptionOutcome::ReceptionFailed => {
-                return self.nothing_received(PollAnswer::PollMacError);
+                return self.goes_on(false, purpose, PollAnswer::PollMacError);
             }
-            ReceptionOutcome::Received(frame) => {
-                return self.dealt_with(receptions::frame_received(
-                    frame,
-                    self.table,
-                    self.candidates,
-                    self.control,
-                ));
-            }
+            ReceptionOutcome::Received(frame) => return self.frame_received(purpose, frame),
         }
     }
 
-    // The outcome of the announcement of a leave without the rejoin bit: the table is empty, and what lies outside this part is reset.
-    fn left(self, sent: bool) -> Answer
-        ensures { λ r. ⌜ r ≡ leftAfter sent self ⌝ }
+    pub fn reception_over(self, outcome: ReceptionOutcome) -> Answer
+        ensures { λ r. ⌜ r ≡ answer self (reception outcome) ⌝ }
     {
-        let changed = self.with_table(NeighborTable::new());
-        let decision = transmissions::transmission_over(
-            sent,
-            changed.parent(),
-            changed.next(),
-            self.control,
-        );
-        self.closed(self.refusal(3, 2), changed, true, decision)
+        if self.is_bad() {
+            return self.refuse(5);
+        }
+        let operation = self.control.operation;
+        let phase = operation.phase;
+        let Phase::Reception(purpose) = phase else {
+            return self.refuse(2);
+        };
+        self.received(purpose, outcome)
+    }
+}
+
+// What a poll or a receive was for goes on: a single one answers; a rejoin, a negotiation or a keepalive polls on.
+fn continuing(
+    purpose: Purpose,
+    answer: PollAnswer,
+    parent: Neighbor,
+    next: Neighbor,
+    control: Control,
+) -> Decision
+    ensures { λ r. ⌜ r ≡ continuing purpose answer parent next control ⌝ }
+{
+    match purpose {
+        Purpose::RejoinResponse => return rejoin_try::try_goes_on(parent, next, control),
+        Purpose::SinglePoll => return exchange::poll_over(control, answer),
+        Purpose::SingleReceive => return exchange::poll_over(control, answer),
+        Purpose::TimeoutResponse(timeout) => {
+            return negotiation::timeout_goes_on(control, timeout, parent);
+        }
+    }
+}
+
+// The outcome of a transmission.
+impl State {
+    // After the announcement of a leave; without the rejoin bit the table is cleared.
+    fn after_leave(mut self, rejoin: bool) -> State
+        ensures { λ r. ⌜ r ≡ afterLeave rejoin self ⌝ }
+    {
+        let nlme = received::leave_announced(self.control.nlme, rejoin);
+        self.control = operation::with_nlme(self.control, nlme);
+        if rejoin {
+            return self;
+        }
+        self.table = NeighborTable::new();
+        self
+    }
+
+    // A leave is announced: what the poll was for goes on.
+    fn left(self, leaving: Leaving) -> Answer
+        ensures { λ r. ⌜ r ≡ goOn (not (leaving .rejoin)) (leaving .purpose) PollAnswer.PollNothing (afterLeave (leaving .rejoin) self) ⌝ }
+    {
+        let purpose = leaving.purpose;
+        self.after_leave(leaving.rejoin)
+            .goes_on(!leaving.rejoin, purpose, PollAnswer::PollNothing)
+    }
+
+    fn transmitted(self, purpose: TransmissionFor, sent: bool) -> Answer
+        ensures { λ r. ⌜ r ≡ transmissionOver sent purpose self ⌝ }
+    {
+        match purpose {
+            TransmissionFor::RejoinRequest => {
+                let parent = tries::parent_seen(self.table);
+                let next = tries::next(self.table, self.candidates);
+                let decision = rejoin_try::request_sent(sent, parent, next, self.control);
+                return self.carried_out(false, decision);
+            }
+            TransmissionFor::Data => {
+                let parent = tries::parent_seen(self.table);
+                let decision = exchange::data_sent(self.control, sent, parent);
+                return self.carried_out(false, decision);
+            }
+            TransmissionFor::TimeoutRequest(timeout) => {
+                let parent = tries::parent_seen(self.table);
+                let decision = negotiation::timeout_request_sent(
+                    self.control,
+                    timeout,
+                    sent,
+                    parent,
+                );
+                return self.carried_out(false, decision);
+            }
+            TransmissionFor::Leave(leaving) => return self.left(leaving),
+        }
     }
 
     pub fn transmission_over(self, sent: bool) -> Answer
-        ensures { λ r. ⌜ r ≡ transmissionOver sent self ⌝ }
+        ensures { λ r. ⌜ r ≡ answer self (transmission sent) ⌝ }
     {
-        if transmissions::leaves_network(self.phase()) {
-            return self.left(sent);
+        if self.is_bad() {
+            return self.refuse(5);
         }
-        let decision = transmissions::transmission_over(
-            sent,
-            self.parent(),
-            self.next(),
-            self.control,
-        );
-        self.closed(self.refusal(3, 2), self, false, decision)
+        let operation = self.control.operation;
+        let phase = operation.phase;
+        let Phase::Transmission(purpose) = phase else {
+            return self.refuse(2);
+        };
+        self.transmitted(purpose, sent)
     }
 }
 
 // The tick, the takings and the choice of candidates.
 impl State {
     pub fn tick_parent_timeout(self, elapsed_ms: u32) -> Answer
-        ensures { λ r. ⌜ r ≡ tick «elapsed_ms» self ⌝ }
+        ensures { λ r. ⌜ r ≡ answer self (elapsed «elapsed_ms») ⌝ }
     {
-        self.always(steps::ticked(elapsed_ms, self.parent(), self.control))
+        if self.is_bad() {
+            return self.refuse(5);
+        }
+        let parent = tries::parent_seen(self.table);
+        self.carried_out(false, exchange::ticked(self.control, parent, elapsed_ms))
     }
 
     pub fn take_leave_indication(self) -> Answer
-        ensures { λ r. ⌜ r ≡ takeLeaveIndication self ⌝ }
+        ensures { λ r. ⌜ r ≡ answer self takeLeave ⌝ }
     {
-        self.always(steps::leave_taken(self.control))
+        if self.is_bad() {
+            return self.refuse(5);
+        }
+        self.carried_out(false, exchange::leave_taken(self.control))
     }
 
     pub fn take_nwk_status_indication(self) -> Answer
-        ensures { λ r. ⌜ r ≡ takeStatusIndication self ⌝ }
+        ensures { λ r. ⌜ r ≡ answer self takeStatus ⌝ }
     {
-        self.always(steps::status_taken(self.control))
+        if self.is_bad() {
+            return self.refuse(5);
+        }
+        self.carried_out(false, exchange::status_taken(self.control))
     }
 
     pub fn select_candidates(

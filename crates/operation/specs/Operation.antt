@@ -1,23 +1,21 @@
 -- The operation under way with some fields replaced, which outcome it awaits, and the common forms of a decision (01, "What must change shape": "Awaited radio calls become a request and a
 -- later outcome").
 use Prim.Native.Nat.{ℕ, _-_}
-use mathlib.Core.Bool.{Bool, true, false}
+use mathlib.Core.Bool.{Bool, true, false, cond}
 use lib.Dec.{eqb}
 use Rattle.nib.specs.declared.NwkNeighbor.{NwkNeighbor}
+use Rattle.nib.specs.declared.Neighbor.{Neighbor}
 use Rattle.nlme.specs.declared.Nlme.{Nlme}
 use Rattle.operation.specs.declared.Purpose.{Purpose}
+use Rattle.operation.specs.declared.ScanFor.{ScanFor}
+use Rattle.operation.specs.declared.TransmissionFor.{TransmissionFor}
 use Rattle.operation.specs.declared.Phase.{Phase}
-use Rattle.operation.specs.declared.Phase.the-variants.{Idle, Discovery, RejoinScan, Association, RejoinSend, DataSend, TimeoutSend, LeaveSend, Reception}
 use Rattle.operation.specs.declared.Operation.{Operation}
 use Rattle.operation.specs.declared.Control.{Control}
 use Rattle.operation.specs.declared.RadioRequest.{RadioRequest}
-use Rattle.operation.specs.declared.RadioRequest.the-variants.{Poll}
 use Rattle.operation.specs.declared.Note.{Note}
-use Rattle.operation.specs.declared.Note.the-variants.{NoNote}
 use Rattle.operation.specs.declared.Step.{Step}
-use Rattle.operation.specs.declared.Step.the-variants.{Refused, Ask, Discovered, DiscoveryFailed, Joined, Sent, Polled, NegotiationOver, KeepaliveOver, Expired, LeaveTaken, StatusTaken}
 use Rattle.operation.specs.declared.Move.{Move}
-use Rattle.operation.specs.declared.Move.the-variants.{Stay}
 use Rattle.operation.specs.declared.Decision.{Decision}
 
 abbrev pub withNlme : Nlme → Control → Control
@@ -26,24 +24,11 @@ withNlme n c = record { nlme = n; operation = c .operation }
 abbrev pub withOperation : Operation → Control → Control
 withOperation o c = record { nlme = c .nlme; operation = o }
 
--- what is awaited
-abbrev pub awaiting : Phase → Operation → Operation
-awaiting p o =
+-- the operation awaits something, and has so many polls left; all else stays
+abbrev with : Phase → ℕ → Operation → Operation
+with p k o =
     record {
       phase = p;
-      «extended_pan_id» = o .«extended_pan_id»;
-      «security_enabled» = o .«security_enabled»;
-      scan = o .scan;
-      scanned = o .scanned;
-      channel = o .channel;
-      «polls_left» = o .«polls_left»;
-    }
-
--- how many polls are left
-abbrev pub withPolls : ℕ → Operation → Operation
-withPolls k o =
-    record {
-      phase = o .phase;
       «extended_pan_id» = o .«extended_pan_id»;
       «security_enabled» = o .«security_enabled»;
       scan = o .scan;
@@ -52,115 +37,126 @@ withPolls k o =
       «polls_left» = k;
     }
 
--- the candidate's channel
-abbrev pub withChannel : ℕ → Operation → Operation
-withChannel k o =
+abbrev pub awaiting : Phase → Operation → Operation
+awaiting p o = with p (o .«polls_left») o
+
+abbrev pub withPolls : ℕ → Operation → Operation
+withPolls k o = with (o .phase) k o
+
+-- where a rejoin stands: whether the scan has been asked for, and the candidate's channel; all else stays
+abbrev rejoinAt : Bool → ℕ → Operation → Operation
+rejoinAt scanned k o =
     record {
       phase = o .phase;
       «extended_pan_id» = o .«extended_pan_id»;
       «security_enabled» = o .«security_enabled»;
       scan = o .scan;
-      scanned = o .scanned;
+      scanned = scanned;
       channel = k;
       «polls_left» = o .«polls_left»;
     }
 
--- the scan has been asked for
+abbrev pub withChannel : ℕ → Operation → Operation
+withChannel k o = rejoinAt (o .scanned) k o
+
 abbrev pub scanAsked : Operation → Operation
-scanAsked o =
-    record {
-      phase = o .phase;
-      «extended_pan_id» = o .«extended_pan_id»;
-      «security_enabled» = o .«security_enabled»;
-      scan = o .scan;
-      scanned = true;
-      channel = o .channel;
-      «polls_left» = o .«polls_left»;
-    }
+scanAsked o = rejoinAt true (o .channel) o
 
 -- the control part awaits something else
 abbrev pub inPhase : Phase → Control → Control
 inPhase p c = withOperation (awaiting p (c .operation)) c
 
--- a decision that uses up no poll and leaves the candidate being tried a potential parent
+abbrev pub isIdle : Phase → Bool
+isIdle Phase.Idle = true
+isIdle (Phase.Scan u) = false
+isIdle Phase.Association = false
+isIdle (Phase.Transmission u) = false
+isIdle (Phase.Reception u) = false
+
+-- what an outcome of some kind is awaited for, where a request awaits that kind (01, "When a call is turned down")
+pub data For (A : Type 0) : Type 0 where
+  awaited : A → For A
+  unawaited : For A
+
+abbrev pub scanFor : Phase → For ScanFor
+scanFor (Phase.Scan u) = awaited u
+scanFor Phase.Idle = unawaited
+scanFor Phase.Association = unawaited
+scanFor (Phase.Transmission u) = unawaited
+scanFor (Phase.Reception u) = unawaited
+
+-- an association is a join's
+abbrev pub associationFor : Phase → For (Unit {0})
+associationFor Phase.Association = awaited tt
+associationFor Phase.Idle = unawaited
+associationFor (Phase.Scan u) = unawaited
+associationFor (Phase.Transmission u) = unawaited
+associationFor (Phase.Reception u) = unawaited
+
+abbrev pub transmissionFor : Phase → For TransmissionFor
+transmissionFor (Phase.Transmission u) = awaited u
+transmissionFor Phase.Idle = unawaited
+transmissionFor (Phase.Scan u) = unawaited
+transmissionFor Phase.Association = unawaited
+transmissionFor (Phase.Reception u) = unawaited
+
+-- a poll or a receive
+abbrev pub receptionFor : Phase → For Purpose
+receptionFor (Phase.Reception u) = awaited u
+receptionFor Phase.Idle = unawaited
+receptionFor (Phase.Scan u) = unawaited
+receptionFor Phase.Association = unawaited
+receptionFor (Phase.Transmission u) = unawaited
+
+-- a decision that uses no poll and leaves the candidate being tried a potential parent
 abbrev pub decided : Move → Note → Step → Control → Decision
-decided m n s c =
-    record {
-      control = c;
-      «clear_potential_parent» = false;
-      candidate = m;
-      note = n;
-      step = s;
-      «polls_used» = 0;
-    }
+decided m n s c = record { control = c; «clear_potential_parent» = false; candidate = m; note = n; step = s; «polls_used» = 0 }
+
+-- an answer that leaves the operation under way as it is
+abbrev pub telling : Step → Control → Decision
+telling s c = decided Move.Stay Note.NoNote s c
 
 -- a request to the radio, whose outcome is awaited
 abbrev pub asking : Phase → RadioRequest → Control → Decision
-asking p r c = decided Stay NoNote (Ask r) (inPhase p c)
+asking p r c = telling (Step.Ask r) (inPhase p c)
 
 -- the operation is over, with its answer
 abbrev pub ending : Step → Control → Decision
-ending s c = decided Stay NoNote s (inPhase Idle c)
+ending s c = telling s (inPhase Phase.Idle c)
 
--- a decision whose step used up polls
-abbrev pub afterPolls : ℕ → Decision → Decision
-afterPolls k d =
+-- a poll of the parent, for a purpose (Zigbee 3.6.6): the only step that uses a poll (01, "Code places and language forms": "polls used .. equal the poll requests")
+abbrev pub polled : Purpose → NwkNeighbor → Control → Decision
+polled u p c =
     record {
-      control = d .control;
-      «clear_potential_parent» = d .«clear_potential_parent»;
-      candidate = d .candidate;
-      note = d .note;
-      step = d .step;
-      «polls_used» = k;
+      control = inPhase (Phase.Reception u) c;
+      «clear_potential_parent» = false;
+      candidate = Move.Stay;
+      note = Note.NoNote;
+      step = Step.Ask (RadioRequest.Poll (c .nlme .nib .panid) (p .«network_address»));
+      «polls_used» = 1;
     }
 
--- a poll of the parent, for a purpose (Zigbee 3.6.6)
-abbrev pub polled : Purpose → NwkNeighbor → Control → Decision
-polled u p c = asking (Reception u) (Poll (c .nlme .nib .panid) (p .«network_address»)) c
+abbrev pub withPollsLeft : ℕ → Control → Control
+withPollsLeft k c = withOperation (withPolls k (c .operation)) c
 
--- one of the polls that are left
-abbrev pub pollCounted : Purpose → NwkNeighbor → Control → Decision
-pollCounted u p c = afterPolls 1 (polled u p (withOperation (withPolls (c .operation .«polls_left» - 1) (c .operation)) c))
+-- the polls of a rejoin's try, a negotiation or a keepalive: the parent is polled while any is left, then `over` follows. With no parent it follows at once:
+-- "A poll made while no entry is PARENT counts towards the 20 but sends no radio request" (01, "Join request and confirm")
+unfoldable pub pollOn : Purpose → Neighbor → (Control → Decision) → Control → Decision
+pollOn u Neighbor.Absent over c = over (withPollsLeft 0 c)
+pollOn u (Neighbor.Entry p) over c =
+    cond (eqb (c .operation .«polls_left») 0) (over (withPollsLeft 0 c)) (polled u p (withPollsLeft (c .operation .«polls_left» - 1) c))
 
--- the kind of outcome that is awaited (01, "When a call is turned down"): 0 none, and no operation is under way; 1 a scan's, 2 an association's,
--- 3 a transmission's, 4 a poll's or a receive's
-abbrev pub awaited : Phase → ℕ
-awaited Idle = 0
-awaited Discovery = 1
-awaited RejoinScan = 1
-awaited Association = 2
-awaited RejoinSend = 3
-awaited DataSend = 3
-awaited (TimeoutSend k) = 3
-awaited (LeaveSend p r) = 3
-awaited (Reception p) = 4
-
-abbrev pub isIdle : Phase → Bool
-isIdle p = eqb (awaited p) 0
-
-abbrev pub awaitsScan : Phase → Bool
-awaitsScan p = eqb (awaited p) 1
-
-abbrev pub awaitsAssociation : Phase → Bool
-awaitsAssociation p = eqb (awaited p) 2
-
-abbrev pub awaitsTransmission : Phase → Bool
-awaitsTransmission p = eqb (awaited p) 3
-
-abbrev pub awaitsReception : Phase → Bool
-awaitsReception p = eqb (awaited p) 4
-
--- a call was turned down
-abbrev pub isRefused : Step → Bool
-isRefused (Refused k) = true
-isRefused (Ask r) = false
-isRefused Discovered = false
-isRefused DiscoveryFailed = false
-isRefused (Joined c) = false
-isRefused (Sent a) = false
-isRefused (Polled a) = false
-isRefused (NegotiationOver a) = false
-isRefused (KeepaliveOver a) = false
-isRefused (Expired e) = false
-isRefused (LeaveTaken i) = false
-isRefused (StatusTaken i) = false
+-- a discovery is over, and has heard
+abbrev pub isDiscovered : Step → Bool
+isDiscovered Step.Discovered = true
+isDiscovered (Step.Refused k) = false
+isDiscovered (Step.Ask r) = false
+isDiscovered Step.DiscoveryFailed = false
+isDiscovered (Step.Joined c) = false
+isDiscovered (Step.Sent a) = false
+isDiscovered (Step.Polled a) = false
+isDiscovered (Step.NegotiationOver a) = false
+isDiscovered (Step.KeepaliveOver a) = false
+isDiscovered (Step.Expired e) = false
+isDiscovered (Step.LeaveTaken i) = false
+isDiscovered (Step.StatusTaken i) = false

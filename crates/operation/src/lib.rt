@@ -1,7 +1,7 @@
 // The operation under way, requests to the radio, and what a decision says.
 ghost use mathlib.Core.Path.{_≡_};
 ghost use Prim.Native.Nat.{_-_};
-ghost use Rattle.operation.specs.Operation.{withNlme, withOperation, withPolls, inPhase, decided, asking, ending, afterPolls, polled, pollCounted, awaited};
+ghost use Rattle.operation.specs.Operation.{withNlme, withPollsLeft, inPhase, isIdle, decided, telling, asking, ending, polled, isDiscovered};
 ghost use Rattle.operation.specs.declared.RadioRequest.the-variants.{Transmit};
 use management::KeepaliveAnswer;
 use management::LeaveIndicationSlot;
@@ -19,29 +19,46 @@ use nib::ShortAddress;
 use nlme::Nlme;
 use nlme::Transmission;
 
-// What a received frame is awaited for. A timeout response is awaited by a negotiation or, where the flag is set, by a keepalive.
+// What a timeout request is sent for.
+pub enum TimeoutFor {
+    Negotiation,
+    Keepalive,
+}
+
+// What a received frame is awaited for.
 pub enum Purpose {
     RejoinResponse,
     SinglePoll,
     SingleReceive,
-    TimeoutResponse(bool),
+    TimeoutResponse(TimeoutFor),
 }
 
-// What the operation under way awaits.
+// What a scan is for.
+pub enum ScanFor {
+    Discovery,
+    Rejoin,
+}
+
+// A leave that is being announced: what the poll that brought it was for, which goes on afterwards, and its rejoin bit.
+pub struct Leaving {
+    pub purpose: Purpose,
+    pub rejoin: bool,
+}
+
+// What a transmission is for.
+pub enum TransmissionFor {
+    RejoinRequest,
+    Data,
+    TimeoutRequest(TimeoutFor),
+    Leave(Leaving),
+}
+
+// What the operation under way awaits: nothing, where none is under way; the outcome of a scan, of an association, of a transmission, or of a poll or a receive.
 pub enum Phase {
     Idle,
-    // a scan
-    Discovery,
-    RejoinScan,
-    // an association
+    Scan(ScanFor),
     Association,
-    // a transmission
-    RejoinSend,
-    DataSend,
-    TimeoutSend(bool),
-    // the transmission of a leave, with its rejoin bit, before what the poll was for goes on
-    LeaveSend(Purpose, bool),
-    // a poll or a receive
+    Transmission(TransmissionFor),
     Reception(Purpose),
 }
 
@@ -118,7 +135,6 @@ pub struct Decision {
     pub candidate: Move,
     pub note: Note,
     pub step: Step,
-    // the polls that this step used up
     pub polls_used: u8,
 }
 
@@ -133,7 +149,7 @@ pub fn with_nlme(control: Control, nlme: Nlme) -> Control
 
 // How many polls are left.
 pub fn with_polls(control: Control, polls_left: u8) -> Control
-    ensures { λ r. ⌜ r ≡ withOperation (withPolls «polls_left» (control .operation)) control ⌝ }
+    ensures { λ r. ⌜ r ≡ withPollsLeft «polls_left» control ⌝ }
 {
     let mut next = control;
     next.operation.polls_left = polls_left;
@@ -164,7 +180,20 @@ pub fn in_phase(control: Control, phase: Phase) -> Control
     Control { nlme, operation }
 }
 
-// A decision that uses up no poll and leaves the candidate being tried a potential parent.
+// Whether no operation is under way.
+pub fn is_idle(phase: Phase) -> bool
+    ensures { λ r. ⌜ r ≡ isIdle phase ⌝ }
+{
+    match phase {
+        Phase::Idle => true,
+        Phase::Scan(_) => false,
+        Phase::Association => false,
+        Phase::Transmission(_) => false,
+        Phase::Reception(_) => false,
+    }
+}
+
+// A decision that uses no poll and leaves the candidate being tried a potential parent.
 pub fn decided(candidate: Move, note: Note, step: Step, control: Control) -> Decision
     ensures { λ r. ⌜ r ≡ decided candidate note step control ⌝ }
 {
@@ -178,37 +207,25 @@ pub fn decided(candidate: Move, note: Note, step: Step, control: Control) -> Dec
     }
 }
 
+// An answer that leaves the operation under way as it is.
+pub fn telling(step: Step, control: Control) -> Decision
+    ensures { λ r. ⌜ r ≡ telling step control ⌝ }
+{
+    decided(Move::Stay, Note::NoNote, step, control)
+}
+
 // A request to the radio, whose outcome is awaited.
 pub fn asking(phase: Phase, request: RadioRequest, control: Control) -> Decision
     ensures { λ r. ⌜ r ≡ asking phase request control ⌝ }
 {
-    decided(
-        Move::Stay,
-        Note::NoNote,
-        Step::Ask(request),
-        in_phase(control, phase),
-    )
+    telling(Step::Ask(request), in_phase(control, phase))
 }
 
 // The operation is over, with its answer.
 pub fn ending(step: Step, control: Control) -> Decision
     ensures { λ r. ⌜ r ≡ ending step control ⌝ }
 {
-    decided(
-        Move::Stay,
-        Note::NoNote,
-        step,
-        in_phase(control, Phase::Idle),
-    )
-}
-
-// A decision whose step used up polls.
-pub fn after_polls(k: u8, decision: Decision) -> Decision
-    ensures { λ r. ⌜ r ≡ afterPolls k decision ⌝ }
-{
-    let mut out = decision;
-    out.polls_used = k;
-    out
+    telling(step, in_phase(control, Phase::Idle))
 }
 
 // A frame is handed to the radio.
@@ -218,17 +235,19 @@ pub fn transmit(phase: Phase, frame: Transmission, control: Control) -> Decision
     asking(phase, RadioRequest::Transmit(frame), control)
 }
 
-// A poll of the parent, for a purpose.
+// A poll of the parent, for a purpose: the only step that uses a poll.
 pub fn poll(purpose: Purpose, parent: NwkNeighbor, control: Control) -> Decision
     ensures { λ r. ⌜ r ≡ polled purpose parent control ⌝ }
 {
     let pan_id = control.nlme.nib.panid;
     let address = parent.network_address;
-    asking(
+    let mut polled = asking(
         Phase::Reception(purpose),
         RadioRequest::Poll(pan_id, address),
         control,
-    )
+    );
+    polled.polls_used = 1;
+    polled
 }
 
 // One poll less.
@@ -243,25 +262,28 @@ fn one_less(polls: u8) -> u8
 
 // One of the polls that are left.
 pub fn poll_counted(purpose: Purpose, parent: NwkNeighbor, control: Control) -> Decision
-    ensures { λ r. ⌜ r ≡ pollCounted purpose parent control ⌝ }
+    ensures { λ r. ⌜ r ≡ polled purpose parent (withPollsLeft (control .operation .«polls_left» - 1) control) ⌝ }
 {
     let left = one_less(control.operation.polls_left);
-    after_polls(1, poll(purpose, parent, with_polls(control, left)))
+    poll(purpose, parent, with_polls(control, left))
 }
 
-// The kind of outcome that is awaited: 0 none, 1 a scan's, 2 an association's, 3 a transmission's, 4 a poll's or a receive's.
-pub fn awaited(phase: Phase) -> u8
-    ensures { λ r. ⌜ r ≡ awaited phase ⌝ }
+// Whether a step is the end of a discovery that has heard.
+pub fn is_discovered(step: Step) -> bool
+    ensures { λ r. ⌜ r ≡ isDiscovered step ⌝ }
 {
-    match phase {
-        Phase::Idle => 0,
-        Phase::Discovery => 1,
-        Phase::RejoinScan => 1,
-        Phase::Association => 2,
-        Phase::RejoinSend => 3,
-        Phase::DataSend => 3,
-        Phase::TimeoutSend(_) => 3,
-        Phase::LeaveSend(_, _) => 3,
-        Phase::Reception(_) => 4,
+    match step {
+        Step::Refused(_) => false,
+        Step::Ask(_) => false,
+        Step::Discovered => true,
+        Step::DiscoveryFailed => false,
+        Step::Joined(_) => false,
+        Step::Sent(_) => false,
+        Step::Polled(_) => false,
+        Step::NegotiationOver(_) => false,
+        Step::KeepaliveOver(_) => false,
+        Step::Expired(_) => false,
+        Step::LeaveTaken(_) => false,
+        Step::StatusTaken(_) => false,
     }
 }

@@ -8,49 +8,45 @@ use Rattle.nib.specs.Identifiers.{bit}
 use Rattle.nib.specs.declared.Nib.{Nib}
 use Rattle.nib.specs.declared.NwkNeighbor.{NwkNeighbor}
 use Rattle.nib.specs.declared.Neighbor.{Neighbor}
-use Rattle.nib.specs.declared.Neighbor.the-variants.{Absent, Entry}
 use Rattle.nib.specs.declared.ShortAddress.{ShortAddress}
 use Rattle.nib.specs.declared.OptionalIeee.{OptionalIeee}
-use Rattle.nib.specs.declared.OptionalIeee.the-variants.{NoIeee, Ieee}
 use Rattle.neighbor_table.specs.NeighborTable.{learnt, knownIeee}
 use Rattle.management.specs.Signals.{withRejoinResponse, withTimeoutResponse, withLeaveIndication}
 use Rattle.management.specs.declared.RejoinResponse.{RejoinResponse}
 use Rattle.management.specs.declared.EndDeviceTimeoutResponse.{EndDeviceTimeoutResponse}
-use Rattle.management.specs.declared.RejoinResponseSlot.the-variants.{HasRejoinResponse}
-use Rattle.management.specs.declared.TimeoutResponseSlot.the-variants.{HasTimeoutResponse}
-use Rattle.management.specs.declared.LeaveIndicationSlot.the-variants.{HasLeaveIndication}
+use Rattle.management.specs.declared.RejoinResponseSlot.{RejoinResponseSlot}
+use Rattle.management.specs.declared.TimeoutResponseSlot.{TimeoutResponseSlot}
+use Rattle.management.specs.declared.LeaveIndicationSlot.{LeaveIndicationSlot}
 use Rattle.management.specs.declared.PollAnswer.{PollAnswer}
-use Rattle.management.specs.declared.PollAnswer.the-variants.{PollData, PollNothing, PollUndecodable}
 use Rattle.frame.specs.declared.Source.{Source}
 use Rattle.frame.specs.declared.LeaveOptions.{LeaveOptions}
 use Rattle.frame.specs.declared.ReceivedFrame.{ReceivedFrame}
-use Rattle.frame.specs.declared.ReceivedFrame.the-variants.{Undecodable, Data, RejoinResponseCommand, TimeoutResponseCommand, LeaveCommand, OtherCommand, OtherFrame}
-use Rattle.frame.specs.declared.SentFrame.the-variants.{Leave}
+use Rattle.frame.specs.declared.SentFrame.{SentFrame}
 use Rattle.nlme.specs.Fields.{withNib, withPending, withSignals, withAddress, withExtendedPanId, withNegotiated, withNetworkLeft}
 use Rattle.nlme.specs.Nlme.{refreshed, commandHeader, seqUsed, transmission, parentAddress}
 use Rattle.nlme.specs.declared.Nlme.{Nlme}
 use Rattle.nlme.specs.declared.Transmission.{Transmission}
-use Rattle.received.specs.declared.TableChange.the-variants.{KeepTable, RemoveNeighbor}
-use Rattle.received.specs.declared.Then.the-variants.{Over, Announce}
+use Rattle.received.specs.declared.TableChange.{TableChange}
+use Rattle.received.specs.declared.Then.{Then}
 use Rattle.received.specs.declared.Handled.{Handled}
 
 -- "Data and commands that carry the sender's IEEE address first teach it to the first entry with its short address"
 unfoldable pub taughtBy : OptionalIeee → ShortAddress → List NwkNeighbor → List NwkNeighbor
-taughtBy NoIeee a es = es
-taughtBy (Ieee x) a es = learnt (a .0) x es
+taughtBy OptionalIeee.NoIeee a es = es
+taughtBy (OptionalIeee.Ieee x) a es = learnt (a .0) x es
 
 unfoldable pub taught : ReceivedFrame → List NwkNeighbor → List NwkNeighbor
-taught Undecodable es = es
-taught (Data s) es = taughtBy (s .ieee) (s .address) es
-taught (RejoinResponseCommand s r) es = taughtBy (s .ieee) (s .address) es
-taught (TimeoutResponseCommand s r) es = taughtBy (s .ieee) (s .address) es
-taught (LeaveCommand s d o) es = taughtBy (s .ieee) (s .address) es
-taught (OtherCommand s) es = taughtBy (s .ieee) (s .address) es
-taught OtherFrame es = es
+taught ReceivedFrame.Undecodable es = es
+taught (ReceivedFrame.Data s) es = taughtBy (s .ieee) (s .address) es
+taught (ReceivedFrame.RejoinResponseCommand s r) es = taughtBy (s .ieee) (s .address) es
+taught (ReceivedFrame.TimeoutResponseCommand s r) es = taughtBy (s .ieee) (s .address) es
+taught (ReceivedFrame.LeaveCommand s d o) es = taughtBy (s .ieee) (s .address) es
+taught (ReceivedFrame.OtherCommand s) es = taughtBy (s .ieee) (s .address) es
+taught ReceivedFrame.OtherFrame es = es
 
 -- "A rejoin response of status 0 sets the network address"; every one fills its slot, asked for or not (`handle_nwk_command` of the source; Zigbee 3.4.7.3.1)
 abbrev pub rejoinSignalled : RejoinResponse → Nlme → Nlme
-rejoinSignalled r n = withSignals (withRejoinResponse (HasRejoinResponse r) (n .signals)) n
+rejoinSignalled r n = withSignals (withRejoinResponse (RejoinResponseSlot.HasRejoinResponse r) (n .signals)) n
 
 unfoldable pub rejoinResponded : RejoinResponse → Nlme → Nlme
 rejoinResponded r n = rejoinSignalled r (cond (eqb (r .status) 0) (withNib (withAddress (r .«network_address») (n .nib)) n) n)
@@ -58,7 +54,7 @@ rejoinResponded r n = rejoinSignalled r (cond (eqb (r .status) 0) (withNib (with
 -- "A timeout response uses up the pending index; with status 0 and a pending index it stores both and restarts the timer" (both: parent information and timeout index); every one fills its slot,
 -- asked for or not (`handle_nwk_command` of the source; Zigbee 3.6.10.2 and 3.6.10.3)
 abbrev pub timeoutSignalled : EndDeviceTimeoutResponse → Nlme → Nlme
-timeoutSignalled r n = withSignals (withTimeoutResponse (HasTimeoutResponse r) (n .signals)) (withPending 0xff n)
+timeoutSignalled r n = withSignals (withTimeoutResponse (TimeoutResponseSlot.HasTimeoutResponse r) (n .signals)) (withPending 0xff n)
 
 unfoldable pub stored : ℕ → Nlme → Nlme
 stored information n = refreshed (withNib (withNegotiated information (n .«pending_timeout_request») (n .nib)) n)
@@ -69,19 +65,19 @@ timeoutResponded r n =
 
 -- whether a frame is the parent's
 abbrev pub fromParent : Neighbor → ShortAddress → Bool
-fromParent Absent a = false
-fromParent (Entry p) a = eqb (p .«network_address» .0) (a .0)
+fromParent Neighbor.Absent a = false
+fromParent (Neighbor.Entry p) a = eqb (p .«network_address» .0) (a .0)
 
 -- the leave indication. No device address means this device (Zigbee 3.2.2.19), but stands for a neighbour too whose frame has none (docs/DIFFERENCES.md)
 abbrev pub leaveIndicated : OptionalIeee → Bool → Nlme → Nlme
 leaveIndicated device rejoin n =
-    withSignals (withLeaveIndication (HasLeaveIndication (record { «device_address» = device; rejoin = rejoin })) (n .signals)) n
+    withSignals (withLeaveIndication (LeaveIndicationSlot.HasLeaveIndication (record { «device_address» = device; rejoin = rejoin })) (n .signals)) n
 
 -- "Leave without the request bit": "From the parent it zeroes the extended PAN id and indicates no device address; from another it indicates the sender's IEEE address, or none if the frame has none"
 unfoldable pub neighborLeft : Neighbor → Source → Bool → Nlme → Nlme
 neighborLeft parent s rejoin n =
     cond (fromParent parent (s .address))
-    (leaveIndicated NoIeee rejoin (withNib (withExtendedPanId (record { 0 = 0 }) (n .nib)) n))
+    (leaveIndicated OptionalIeee.NoIeee rejoin (withNib (withExtendedPanId (record { 0 = 0 }) (n .nib)) n))
     (leaveIndicated (s .ieee) rejoin n)
 
 -- `accepts_leave_request` (Zigbee 3.6.1.10.3.1): not the coordinator, no broadcast (0xfff8 and above); a router as nwkLeaveRequestAllowed says, an end device from its parent
@@ -93,7 +89,7 @@ acceptsLeave nib destination byParent =
 
 -- `announce_leave` (Zigbee 3.6.1.10.1): a router broadcasts, an end device tells its parent with the remove children bit 0
 abbrev pub leaveTo : Nlme → ShortAddress → OptionalIeee → Bool → Bool → Transmission
-leaveTo n to ieee rejoin children = transmission n to (Leave (commandHeader n to ieee true) rejoin children)
+leaveTo n to ieee rejoin children = transmission n to (SentFrame.Leave (commandHeader n to ieee true) rejoin children)
 
 unfoldable pub announcement : Nlme → Neighbor → OptionalIeee → LeaveOptions → Transmission
 announcement n parent broadcastIeee o =
@@ -103,31 +99,31 @@ announcement n parent broadcastIeee o =
 
 -- a frame that is dealt with: the table as it is, and what a single poll or receive answers
 abbrev pub dealtWith : Nlme → PollAnswer → Handled
-dealtWith n a = record { nlme = n; change = KeepTable; then = Over a }
+dealtWith n a = record { nlme = n; change = TableChange.KeepTable; then = Then.Over a }
 
 -- a leave request: an accepted one is announced, which uses a sequence number (01, "Received frame")
 unfoldable pub leaveRequested : Neighbor → OptionalIeee → ShortAddress → ShortAddress → LeaveOptions → Nlme → Handled
 leaveRequested parent broadcastIeee s d o n =
     cond (acceptsLeave (n .nib) d (fromParent parent s))
-    (record { nlme = seqUsed n; change = KeepTable; then = Announce (announcement n parent broadcastIeee o) (o .rejoin) })
-    (dealtWith n PollNothing)
+    (record { nlme = seqUsed n; change = TableChange.KeepTable; then = Then.Announce (announcement n parent broadcastIeee o) (o .rejoin) })
+    (dealtWith n PollAnswer.PollNothing)
 
 -- a leave command: "Leave without the request bit removes every entry of that address" (Zigbee 3.6.1.10.3)
 unfoldable pub leaveHandled : Neighbor → OptionalIeee → Source → ShortAddress → LeaveOptions → Nlme → Handled
 leaveHandled parent broadcastIeee s d o n =
     cond (o .request)
     (leaveRequested parent broadcastIeee (s .address) d o n)
-    (record { nlme = neighborLeft parent s (o .rejoin) n; change = RemoveNeighbor (s .address); then = Over PollNothing })
+    (record { nlme = neighborLeft parent s (o .rejoin) n; change = TableChange.RemoveNeighbor (s .address); then = Then.Over PollAnswer.PollNothing })
 
 -- `process_received_nwk_frame`, after the teaching
 unfoldable pub handled : Neighbor → OptionalIeee → ReceivedFrame → Nlme → Handled
-handled parent broadcastIeee Undecodable n = dealtWith n PollUndecodable
-handled parent broadcastIeee (Data s) n = dealtWith n PollData
-handled parent broadcastIeee (RejoinResponseCommand s r) n = dealtWith (rejoinResponded r n) PollNothing
-handled parent broadcastIeee (TimeoutResponseCommand s r) n = dealtWith (timeoutResponded r n) PollNothing
-handled parent broadcastIeee (LeaveCommand s d o) n = leaveHandled parent broadcastIeee s d o n
-handled parent broadcastIeee (OtherCommand s) n = dealtWith n PollNothing
-handled parent broadcastIeee OtherFrame n = dealtWith n PollNothing
+handled parent broadcastIeee ReceivedFrame.Undecodable n = dealtWith n PollAnswer.PollUndecodable
+handled parent broadcastIeee (ReceivedFrame.Data s) n = dealtWith n PollAnswer.PollData
+handled parent broadcastIeee (ReceivedFrame.RejoinResponseCommand s r) n = dealtWith (rejoinResponded r n) PollAnswer.PollNothing
+handled parent broadcastIeee (ReceivedFrame.TimeoutResponseCommand s r) n = dealtWith (timeoutResponded r n) PollAnswer.PollNothing
+handled parent broadcastIeee (ReceivedFrame.LeaveCommand s d o) n = leaveHandled parent broadcastIeee s d o n
+handled parent broadcastIeee (ReceivedFrame.OtherCommand s) n = dealtWith n PollAnswer.PollNothing
+handled parent broadcastIeee ReceivedFrame.OtherFrame n = dealtWith n PollAnswer.PollNothing
 
 -- after the announcement, sent or not: an end device's extended PAN id is 0 (Zigbee 3.6.1.10.1), and unless the rejoin bit is set the fields of
 -- `clear_nib_on_leave` are reset (Zigbee 3.6.1.10.4), so the timer runs on. "It indicates no device address, announced or not."
@@ -136,4 +132,4 @@ leftFor true nib = cond (bit 1 (nib .«capability_information» .0)) nib (withEx
 leftFor false nib = withNetworkLeft nib
 
 unfoldable pub leaveAnnounced : Bool → Nlme → Nlme
-leaveAnnounced rejoin n = leaveIndicated NoIeee rejoin (withNib (leftFor rejoin (n .nib)) n)
+leaveAnnounced rejoin n = leaveIndicated OptionalIeee.NoIeee rejoin (withNib (leftFor rejoin (n .nib)) n)

@@ -1,3 +1,4 @@
 -- The laws of `refusals`.
+pub mod Conditions
 pub mod Decisions
 pub mod Refusals

@@ -1,209 +1,226 @@
 -- A call gets its step, or the refusal that 01 gives it. Assumes nothing.
-use Prim.Native.Nat.{ℕ, _≤_}
-use mathlib.Core.Path.{_≡_, refl}
+use Prim.Native.Nat.{ℕ, _<_}
+use mathlib.Core.Path.{_≡_, refl, sym, ap, subst, subst⁻¹, _∙_}
 use mathlib.Core.Bool.{Bool, true, false, cond, false≢true}
-use mathlib.Core.List.{List}
+use mathlib.Core.List.{List, [], _∷_}
+use mathlib.Core.Logic.{inl, inr, _↔_}
 use native.Mathlib.Omega.{arith}
 use lib.Dec.{eqb, ltb}
 use Rattle.lists.proofs.Conditions.{by-cases}
 use Rattle.mlme.specs.Mlme.{descriptorsOf}
-use Rattle.mlme.specs.declared.PanDescriptor.{PanDescriptor}
 use Rattle.discovery.specs.Discovery.{shortAddressed}
 use Rattle.management.specs.declared.RejoinNetwork.{RejoinNetwork}
-use Rattle.management.specs.declared.RejoinNetwork.the-variants as network
 use Rattle.management.specs.declared.NlmeJoinRequest.{NlmeJoinRequest}
 use Rattle.management.specs.declared.PollAnswer.{PollAnswer}
 use Rattle.received.specs.declared.Then.{Then}
-use Rattle.received.specs.declared.Then.the-variants.{Over, Announce}
 use Rattle.parent_timer.specs.declared.ParentTimer.{ParentTimer}
-use Rattle.operation.specs.Operation.{isIdle, awaitsScan, awaitsAssociation, awaitsTransmission, awaitsReception, isRefused}
+use Rattle.operation.specs.Operation.{For, awaited, unawaited, scanFor, associationFor, transmissionFor, receptionFor}
 use Rattle.operation.specs.declared.Purpose.{Purpose}
+use Rattle.operation.specs.declared.ScanFor.{ScanFor}
+use Rattle.operation.specs.declared.TransmissionFor.{TransmissionFor}
 use Rattle.operation.specs.declared.Phase.{Phase}
-use Rattle.operation.specs.declared.Phase.the-variants.{Idle, Discovery, RejoinScan, Association, RejoinSend, DataSend, TimeoutSend, LeaveSend, Reception}
+use Rattle.operation.specs.declared.Step.{Step}
 use Rattle.operation.specs.declared.Decision.{Decision}
 use Rattle.exchange.specs.Exchange.{receiveStarted}
 use Rattle.node.specs.Looks.{finish}
-use Rattle.node.specs.Refusals.{refuse, indexPastTable, bad, startOrRefusal, outcomeOrRefusal, otherOrRefusal}
-use Rattle.node.specs.Calls.{startDiscovery, joinFrom, joinBy, startJoin, startSend, startPoll, startReceive, startTimeout, scanFailed, rejoinHeard, discovered, scanFound, scanListed, scanned, associationOver, goOn, after, receivedFor, receivedIn, receptionOver, afterLeave, sentIn, transmissionOver, tick, takeLeaveIndication, takeStatusIndication, choose}
-use Rattle.node.specs.Runs.{Call, discovery, join, send, poll, receive, timeout, scan, association, transmission, reception, elapsed, takeLeave, takeStatus, answer}
+use Rattle.node.specs.Refusals.{refuse, bad, start, outcome}
+use Rattle.node.specs.Calls.{associate, joinBy, scanFailed, heard, scanHeard, scanOver, goOn, after, receptionOver, afterLeave, transmissionOver, Call, discovery, join, send, poll, receive, timeout, scan, association, transmission, reception, elapsed, takeLeave, takeStatus, made, answer, scanned, choose}
 use Rattle.node.specs.declared.State.{State}
 use Rattle.node.specs.declared.Answer.{Answer}
 use Rattle.node.specs.declared.Choice.{Choice}
 use Rattle.node.specs.declared.ScanOutcome.{ScanOutcome}
-use Rattle.node.specs.declared.ScanAnswer.{ScanAnswer}
 use Rattle.node.specs.declared.ReceptionOutcome.{ReceptionOutcome}
-use Rattle.node.specs.declared.ReceptionOutcome.the-variants.{NoData, ReceptionFailed, Received}
 use Rattle.lent_tick.specs.LentTick.{withTimer, turnedDown, leaving, lentTick}
-use Rattle.refusals.specs.Statement.{unfit, refusal, MadeOr, LentOr, Demand1}
-use Rattle.refusals.proofs.Decisions.{Made, join-made, associated-made, rejoin-made, next-made, request-made, send-made, sent-made, pollStarted-made, timeout-made, timeoutSent-made, continuing-made}
+use Rattle.lent_tick.specs.declared.LentTicked.{LentTicked}
+use Rattle.refusals.specs.Statement.{phase, Bad, UnderWay, Above27, Above16, numbers, First, TurnedDown, Answered, Demand1}
+use Rattle.refusals.proofs.Conditions.{Tells, holds, fails, Told, awaits, awaits-none, same-told, above-told, bad-told, idle-told, scan-told, association-told, transmission-told, reception-told, shorts-are}
+use Rattle.refusals.proofs.Decisions.{Uses, Made, join-made, associated-made, rejoin-made, next-made, request-made, send-made, sent-made, pollStarted-made, timeout-made, timeoutSent-made, continuing-made}
 
--- a number and an answer chosen by the same test
-both : {A : Type 0} (R : ℕ → A → Type 0) (b : Bool) {j k : ℕ} {x y : A} → (b ≡ true → R j x) → R k y → R (cond b j k) (cond b x y)
-both R true p q = p refl
-both R false p q = q
+-- an answer whose step is made, and uses the polls that it requests
+abbrev Done : Answer → Type 0
+Done a = Uses (a .step) (a .«polls_used»)
 
-abbrev ScanOr : State → ℕ → ScanAnswer → Type 0
-ScanOr s k a = MadeOr s k (a .answer)
+-- an answer with numbered conditions: the refusal of the first that holds; where none does, its step is made
+pub data Gets (s : State) (a : Answer) : List (ℕ × Type 0) → Type 1 where
+  done : Done a → Gets s a []
+  turned : {k : ℕ} {C : Type 0} {cs : List (ℕ × Type 0)} → C → a ≡ refuse k s → Gets s a ((k, C) ∷ cs)
+  passed : {k : ℕ} {C : Type 0} {cs : List (ℕ × Type 0)} → (C → ⊥) → Gets s a cs → Gets s a ((k, C) ∷ cs)
 
-carried : (reset : Bool) (s : State) (d : Decision) → Made d → MadeOr s 0 (finish reset s d)
+-- one condition more, by its test or by what is awaited
+tested : {s : State} {b : Bool} {k : ℕ} {C : Type 0} {cs : List (ℕ × Type 0)} {a : Answer} → Tells C b → Gets s a cs → Gets s (cond b (refuse k s) a) ((k, C) ∷ cs)
+tested (holds h) g = turned h refl
+tested (fails h) g = passed h g
+
+outcome-made : {A : Type 0} (s : State) (w : For A) (f : A → State → Answer) {C : Type 0} {cs : List (ℕ × Type 0)} → Told C w → ((u : A) → Gets s (f u s) cs)
+    → Gets s (outcome w f s) ((2, C) ∷ cs)
+unfolding outcome
+outcome-made s (awaited u) f (awaits h) g = passed h (g u)
+outcome-made s unawaited f (awaits-none h) g = turned h refl
+
+start-made : (s : State) (a : Answer) → Done a → Gets s (start a s) ((1, UnderWay s) ∷ [])
+start-made s a h = go (idle-told (phase s))
+  where
+    go : {b : Bool} → Tells (phase s ≡ Phase.Idle) b → Gets s (cond b a (refuse 1 s)) ((1, UnderWay s) ∷ [])
+    go (holds i) = passed (λ (n : UnderWay s). n i) (done h)
+    go (fails i) = turned i refl
+
+carried : (reset : Bool) (s : State) (d : Decision) → Made d → Done (finish reset s d)
 unfolding finish
 carried reset s d h = h
 
 -- STARTS
 
-joinFrom-made : (r : NlmeJoinRequest) (s : State) → MadeOr s 0 (joinFrom r s)
-unfolding joinFrom
-joinFrom-made r s =
-    by-cases (MadeOr s 0) (eqb (s .control .nlme .nib .«network_address» .0) 0xffff) (λ _. carried false _ _ (join-made _ _ _)) (carried false s _ refl)
+associate-made : (r : NlmeJoinRequest) (s : State) → Done (associate r s)
+unfolding associate
+associate-made r s = by-cases Done (eqb (s .control .nlme .nib .«network_address» .0) 0xffff) (λ _. carried false _ _ (join-made _ _ _)) (carried false s _ refl)
 
-joinBy-made : (k : RejoinNetwork) (r : NlmeJoinRequest) (s : State) → MadeOr s 0 (joinBy k r s)
+joinBy-made : (k : RejoinNetwork) (r : NlmeJoinRequest) (s : State) → Done (joinBy k r s)
 unfolding joinBy
-joinBy-made network.Association r s = joinFrom-made r s
-joinBy-made network.Orphan r s = carried false s _ refl
-joinBy-made network.NwkRejoin r s = carried false s _ (rejoin-made r _ _)
-joinBy-made network.ChannelChange r s = carried false s _ refl
-
-start-made : (s : State) (a : Answer) → MadeOr s 0 a → MadeOr s (cond (bad s) 5 (cond (isIdle (s .control .operation .phase)) 0 1)) (startOrRefusal s a)
-unfolding startOrRefusal
-start-made s a h = both (MadeOr s) (bad s) (λ _. refl) (both (MadeOr s) (isIdle (s .control .operation .phase)) (λ _. h) refl)
+joinBy-made RejoinNetwork.Association r s = associate-made r s
+joinBy-made RejoinNetwork.Orphan r s = carried false s _ refl
+joinBy-made RejoinNetwork.NwkRejoin r s = carried false s _ (rejoin-made r _ _)
+joinBy-made RejoinNetwork.ChannelChange r s = carried false s _ refl
 
 -- OUTCOMES
 
--- a scan, which a discovery or a rejoin awaits
-scanning : (P : Phase → Type 0) → P Discovery → P RejoinScan → (p : Phase) → awaitsScan p ≡ true → P p
-scanning P d r Idle h = absurd (false≢true h)
-scanning P d r Discovery h = d
-scanning P d r RejoinScan h = r
-scanning P d r Association h = absurd (false≢true h)
-scanning P d r RejoinSend h = absurd (false≢true h)
-scanning P d r DataSend h = absurd (false≢true h)
-scanning P d r (TimeoutSend k) h = absurd (false≢true h)
-scanning P d r (LeaveSend u k) h = absurd (false≢true h)
-scanning P d r (Reception u) h = absurd (false≢true h)
-
-scanFailed-made : (s : State) (p : Phase) → awaitsScan p ≡ true → MadeOr s 0 (scanFailed p s)
+-- a scan
+scanFailed-made : (u : ScanFor) (s : State) → Done (scanFailed u s)
 unfolding scanFailed
-scanFailed-made s = scanning (λ p. MadeOr s 0 (scanFailed p s)) (carried false s _ refl) (carried false s _ refl)
+scanFailed-made ScanFor.Discovery s = carried false s _ refl
+scanFailed-made ScanFor.Rejoin s = carried false s _ refl
 
-scanFound-made : (ds : List PanDescriptor) (s : State) (p : Phase) → awaitsScan p ≡ true → ScanOr s 0 (scanFound p ds s)
-unfolding scanFound discovered rejoinHeard
-scanFound-made ds s = scanning (λ p. ScanOr s 0 (scanFound p ds s)) (carried false _ _ refl) (carried false _ _ (next-made _ _ _))
+scanHeard-made : (u : ScanFor) (s : State) → Done (scanHeard u s)
+unfolding scanHeard
+scanHeard-made ScanFor.Discovery s = carried false s _ refl
+scanHeard-made ScanFor.Rejoin s = carried false _ _ (next-made _ _ _)
 
-scan-made : (o : ScanOutcome) (s : State) → ScanOr s (refusal s (scan o)) (scanned o s)
-unfolding scanned scanListed
-scan-made o s =
-    both (ScanOr s) (bad s) (λ _. refl)
-    (both (ScanOr s) (awaitsScan (s .control .operation .phase))
-    (λ w. both (ScanOr s) (o .failed) (λ _. scanFailed-made s _ w)
-    (both (ScanOr s) (ltb 27 (o .list .count)) (λ _. refl)
-    (both (ScanOr s) (ltb 16 (shortAddressed (descriptorsOf (o .list)))) (λ _. refl) (scanFound-made _ s _ w))))
-    refl)
+scan-made : (o : ScanOutcome) (s : State) (u : ScanFor) → Gets s (scanOver o u s) ((3, Above27 o) ∷ (4, Above16 o) ∷ [])
+unfolding scanOver
+scan-made o s u = go (o .failed) refl
+  where
+    go : (b : Bool) → o .failed ≡ b
+        → Gets s
+        (cond b (scanFailed u s)
+        (cond (ltb 27 (o .list .count)) (refuse 3 s)
+        (cond (ltb 16 (shortAddressed (descriptorsOf (o .list)))) (refuse 4 s) (scanHeard u (heard (descriptorsOf (o .list)) s)))))
+        ((3, Above27 o) ∷ (4, Above16 o) ∷ [])
+    go true e = passed (λ (h : Above27 o). false≢true (sym (h .0) ∙ e)) (passed (λ (h : Above16 o). false≢true (sym (h .0) ∙ e)) (done (scanFailed-made u s)))
+    go false e =
+        tested (same-told (λ h. (e, h)) (λ h. h .1) (above-told 27 (o .list .count)))
+        (tested (same-told (λ h. (e, subst⁻¹ (λ (n : ℕ). 16 < n) (shorts-are (descriptorsOf (o .list))) h)) (λ h. subst (λ (n : ℕ). 16 < n) (shorts-are (descriptorsOf (o .list))) (h .1)) (above-told 16 (shortAddressed (descriptorsOf (o .list)))))
+        (done (scanHeard-made u _)))
 
 -- a poll or a receive
-goOn-made : (reset : Bool) (u : Purpose) (a : PollAnswer) (s : State) → MadeOr s 0 (goOn reset u a s)
+goOn-made : (reset : Bool) (u : Purpose) (a : PollAnswer) (s : State) → Done (goOn reset u a s)
 goOn-made reset u a s = carried reset s _ (continuing-made u a _ _ _)
 
-after-made : (u : Purpose) (t : Then) (s : State) → MadeOr s 0 (after u t s)
+after-made : (u : Purpose) (t : Then) (s : State) → Done (after u t s)
 unfolding after
-after-made u (Over a) s = goOn-made false u a s
-after-made u (Announce t rejoin) s = carried false s _ refl
+after-made u (Then.Over a) s = goOn-made false u a s
+after-made u (Then.Announce t rejoin) s = carried false s _ refl
 
-received-made : (u : Purpose) (o : ReceptionOutcome) (s : State) → MadeOr s 0 (receivedFor u o s)
-unfolding receivedFor
-received-made u NoData s = goOn-made false u _ s
-received-made u ReceptionFailed s = goOn-made false u _ s
-received-made u (Received f) s = after-made u _ _
-
-reception-made : (o : ReceptionOutcome) (s : State) (p : Phase) → MadeOr s (unfit p (reception o)) (receivedIn p o s)
-unfolding receivedIn
-reception-made o s Idle = refl
-reception-made o s Discovery = refl
-reception-made o s RejoinScan = refl
-reception-made o s Association = refl
-reception-made o s RejoinSend = refl
-reception-made o s DataSend = refl
-reception-made o s (TimeoutSend k) = refl
-reception-made o s (LeaveSend u r) = refl
-reception-made o s (Reception u) = received-made u o s
+reception-made : (o : ReceptionOutcome) (s : State) (u : Purpose) → Done (receptionOver o u s)
+unfolding receptionOver
+reception-made ReceptionOutcome.NoData s u = goOn-made false u _ s
+reception-made ReceptionOutcome.ReceptionFailed s u = goOn-made false u _ s
+reception-made (ReceptionOutcome.Received f) s u = after-made u _ _
 
 -- a transmission
-transmission-made : (ok : Bool) (s : State) (p : Phase) → MadeOr s (unfit p (transmission ok)) (sentIn p ok s)
-unfolding sentIn
-transmission-made ok s Idle = refl
-transmission-made ok s Discovery = refl
-transmission-made ok s RejoinScan = refl
-transmission-made ok s Association = refl
-transmission-made ok s RejoinSend = carried false s _ (request-made ok _ _ _)
-transmission-made ok s DataSend = carried false s _ (sent-made ok _ _)
-transmission-made ok s (TimeoutSend k) = carried false s _ (timeoutSent-made k ok _ _)
-transmission-made ok s (LeaveSend u r) = goOn-made _ u _ (afterLeave r s)
-transmission-made ok s (Reception u) = refl
+transmission-made : (ok : Bool) (s : State) (u : TransmissionFor) → Done (transmissionOver ok u s)
+unfolding transmissionOver
+transmission-made ok s TransmissionFor.RejoinRequest = carried false s _ (request-made ok _ _ _)
+transmission-made ok s TransmissionFor.Data = carried false s _ (sent-made ok _ _)
+transmission-made ok s (TransmissionFor.TimeoutRequest u) = carried false s _ (timeoutSent-made u ok _ _)
+transmission-made ok s (TransmissionFor.Leave l) = goOn-made _ (l .purpose) _ (afterLeave (l .rejoin) s)
 
 -- EVERY CALL
 
--- refusal 5 alone, or before others
-always-made : (s : State) (k : ℕ) (a : Answer) → MadeOr s k a → MadeOr s (cond (bad s) 5 k) (otherOrRefusal s a)
-unfolding otherOrRefusal
-always-made s k a h = both (MadeOr s) (bad s) (λ _. refl) h
+pub answer-made : (s : State) (c : Call) → Gets s (answer s c) (numbers s c)
+unfolding answer receiveStarted
+answer-made s (discovery r) = tested (bad-told s) (start-made s _ (carried false s _ refl))
+answer-made s (join r) = tested (bad-told s) (start-made s _ (joinBy-made _ r s))
+answer-made s (send d secure) = tested (bad-told s) (start-made s _ (carried false s _ (send-made d secure _ _)))
+answer-made s poll = tested (bad-told s) (start-made s _ (carried false s _ (pollStarted-made _ _)))
+answer-made s receive = tested (bad-told s) (start-made s _ (carried false s _ refl))
+answer-made s (timeout u) = tested (bad-told s) (start-made s _ (carried false s _ (timeout-made u _ _)))
+answer-made s (scan o) = tested (bad-told s) (outcome-made s (scanFor (phase s)) _ (scan-told (phase s)) (scan-made o s))
+answer-made s (association o) = tested (bad-told s) (outcome-made s (associationFor (phase s)) _ (association-told (phase s)) (λ _. done (carried false s _ (associated-made o _ _ _))))
+answer-made s (transmission ok) = tested (bad-told s) (outcome-made s (transmissionFor (phase s)) _ (transmission-told (phase s)) (λ u. done (transmission-made ok s u)))
+answer-made s (reception o) = tested (bad-told s) (outcome-made s (receptionFor (phase s)) _ (reception-told (phase s)) (λ u. done (reception-made o s u)))
+answer-made s (elapsed ms) = tested (bad-told s) (done (carried false s _ refl))
+answer-made s takeLeave = tested (bad-told s) (done (carried false s _ refl))
+answer-made s takeStatus = tested (bad-told s) (done (carried false s _ refl))
 
-answer-made : (s : State) (c : Call) → MadeOr s (refusal s c) (answer s c)
-unfolding startDiscovery startJoin startSend startPoll startReceive startTimeout receiveStarted associationOver outcomeOrRefusal transmissionOver receptionOver tick takeLeaveIndication takeStatusIndication
-answer-made s (discovery r) = start-made s _ (carried false s _ refl)
-answer-made s (join r) = start-made s _ (joinBy-made _ r s)
-answer-made s (send d secure) = start-made s _ (carried false s _ (send-made d secure _ _))
-answer-made s poll = start-made s _ (carried false s _ (pollStarted-made _ _))
-answer-made s receive = start-made s _ (carried false s _ refl)
-answer-made s (timeout k) = start-made s _ (carried false s _ (timeout-made k _ _))
-answer-made s (scan o) = scan-made o s
-answer-made s (association o) =
-    both (MadeOr s) (bad s) (λ _. refl)
-    (both (MadeOr s) (awaitsAssociation (s .control .operation .phase)) (λ _. carried false s _ (associated-made o _ _ _)) refl)
-answer-made s (transmission ok) = always-made s _ _ (transmission-made ok s (s .control .operation .phase))
-answer-made s (reception o) = always-made s _ _ (reception-made o s (s .control .operation .phase))
-answer-made s (elapsed ms) = always-made s 0 _ refl
-answer-made s takeLeave = always-made s 0 _ refl
-answer-made s takeStatus = always-made s 0 _ refl
-
-lent-made : (t : ParentTimer) (ms : ℕ) (s : State) → LentOr t s (cond (bad s) 5 0) (lentTick t ms s)
-unfolding lentTick tick otherOrRefusal bad indexPastTable
-lent-made t ms s = go (bad s) _ refl
+lent-made : (t : ParentTimer) (ms : ℕ) (s : State) → Gets s (lentTick t ms s .answer) ((5, Bad s) ∷ [])
+unfolding lentTick answer bad
+lent-made t ms s = go (bad-told s)
   where
-    go : (b : Bool) (a : Answer) → isRefused (a .step) ≡ false → LentOr t s (cond b 5 0) (cond b (turnedDown t s) (leaving (cond b (refuse 5 (withTimer t s)) a)))
-    go true a h = refl
-    go false a h = h
+    go : {b : Bool} → Tells (Bad s) b
+        → Gets s (cond b (turnedDown t s) (leaving (cond b (refuse 5 (withTimer t s)) (made (withTimer t s) (elapsed ms)))) .answer) ((5, Bad s) ∷ [])
+    go (holds h) = turned h refl
+    go (fails h) = passed h (done (carried false (withTimer t s) _ refl))
 
--- THE NUMBERS
+-- THE STATEMENT
 
-chosen-from : (b : Bool) {j k : ℕ} → j ≤ 5 → k ≤ 5 → cond b j k ≤ 5
-chosen-from b h i = by-cases (λ (n : ℕ). n ≤ 5) b (λ _. h) i
+-- the number of a refusal
+abbrev numberOf : Step → ℕ
+numberOf (Step.Refused k) = k
+numberOf (Step.Ask r) = 0
+numberOf Step.Discovered = 0
+numberOf Step.DiscoveryFailed = 0
+numberOf (Step.Joined x) = 0
+numberOf (Step.Sent x) = 0
+numberOf (Step.Polled x) = 0
+numberOf (Step.NegotiationOver x) = 0
+numberOf (Step.KeepaliveOver x) = 0
+numberOf (Step.Expired x) = 0
+numberOf (Step.LeaveTaken x) = 0
+numberOf (Step.StatusTaken x) = 0
 
-unfit-numbered : (p : Phase) (c : Call) → unfit p c ≤ 5
-unfit-numbered p (discovery r) = chosen-from (isIdle p) (omega arith) (omega arith)
-unfit-numbered p (join r) = chosen-from (isIdle p) (omega arith) (omega arith)
-unfit-numbered p (send d secure) = chosen-from (isIdle p) (omega arith) (omega arith)
-unfit-numbered p poll = chosen-from (isIdle p) (omega arith) (omega arith)
-unfit-numbered p receive = chosen-from (isIdle p) (omega arith) (omega arith)
-unfit-numbered p (timeout k) = chosen-from (isIdle p) (omega arith) (omega arith)
-unfit-numbered p (scan o) =
-    chosen-from (awaitsScan p)
-    (chosen-from (o .failed) (omega arith)
-    (chosen-from (ltb 27 (o .list .count)) (omega arith) (chosen-from (ltb 16 (shortAddressed (descriptorsOf (o .list)))) (omega arith) (omega arith))))
-    (omega arith)
-unfit-numbered p (association o) = chosen-from (awaitsAssociation p) (omega arith) (omega arith)
-unfit-numbered p (transmission ok) = chosen-from (awaitsTransmission p) (omega arith) (omega arith)
-unfit-numbered p (reception o) = chosen-from (awaitsReception p) (omega arith) (omega arith)
-unfit-numbered p (elapsed ms) = omega arith
-unfit-numbered p takeLeave = omega arith
-unfit-numbered p takeStatus = omega arith
+turned-down : (s : State) (a : Answer) (k j : ℕ) → j ≡ k → a ≡ refuse j s → TurnedDown k s a
+unfolding refuse
+turned-down s a k j q e =
+    subst⁻¹ (λ (x : Answer). TurnedDown k s x) (e ∙ ap (λ (i : ℕ). refuse i s) q) (record { state = refl; step = refl; note = refl; reset = refl; polls = refl })
 
-choice-made : (n : ℕ) (router permit : Bool) (s : State) → choose n router permit s .refusal ≡ cond (bad s) 5 0
+given : {s : State} {a : Answer} {cs : List (ℕ × Type 0)} → Gets s a cs → (k : ℕ) → First k cs → TurnedDown k s a
+given (done h) k f = absurd f
+given (turned h e) k (inl f) = turned-down _ _ k _ (f .0) e
+given (turned h e) k (inr f) = absurd (f .0 h)
+given (passed n g) k (inl f) = absurd (n (f .1))
+given (passed n g) k (inr f) = given g k (f .1)
+
+only : {s : State} {a : Answer} {cs : List (ℕ × Type 0)} → Gets s a cs → (k : ℕ) → a .step ≡ Step.Refused k → First k cs
+unfolding refuse
+only {a = a} (done h) k e = subst (λ (x : Step). Uses x (a .«polls_used»)) e h
+only (turned h q) k e = inl (sym (ap (λ (x : Answer). numberOf (x .step)) q) ∙ ap numberOf e, h)
+only (passed n g) k e = inr (n, only g k e)
+
+by-numbers : {s : State} {a : Answer} {cs : List (ℕ × Type 0)} → Gets s a cs → Answered s cs a
+by-numbers g = record { given = given g; only = only g }
+
+kept : (t : ParentTimer) (ms : ℕ) (s : State) → Bad s → lentTick t ms s .timer ≡ t
+unfolding lentTick
+kept t ms s h = go (bad-told s) _
+  where
+    go : {b : Bool} → Tells (Bad s) b → (l : LentTicked) → cond b (turnedDown t s) l .timer ≡ t
+    go (holds b) l = refl
+    go (fails b) l = absurd (b h)
+
+choice : (n : ℕ) (router permit : Bool) (s : State) → ((choose n router permit s .refusal ≡ 5) ↔ Bad s) × ((choose n router permit s .refusal ≡ 0) ↔ (Bad s → ⊥))
 unfolding choose
-choice-made n router permit s = both (λ (k : ℕ) (c : Choice). c .refusal ≡ k) (bad s) (λ _. refl) refl
+choice n router permit s = go (bad-told s) _ _ refl refl
+  where
+    go : {b : Bool} → Tells (Bad s) b → (x y : Choice) → x .refusal ≡ 5 → y .refusal ≡ 0 → ((cond b x y .refusal ≡ 5) ↔ Bad s) × ((cond b x y .refusal ≡ 0) ↔ (Bad s → ⊥))
+    go (holds h) x y p q = ((λ _. h, λ _. p), (λ e. omega arith, λ n. absurd (n h)))
+    go (fails h) x y p q = ((λ e. absurd (omega arith), λ b. absurd (h b)), (λ _. h, λ _. q))
 
 pub demand-1 : Demand1
-demand-1 = record {
-  answered = answer-made;
-  lent = lent-made;
-  numbered = λ s c. chosen-from (bad s) (omega arith) (unfit-numbered (s .control .operation .phase) c);
-  choice = choice-made;
-}
+unfolding scanned
+demand-1 =
+    record {
+      answered = λ s c. by-numbers (answer-made s c);
+      confirmed = λ s o. by-numbers (answer-made s (scan o));
+      lent = λ t ms s. by-numbers (lent-made t ms s);
+      record-kept = kept;
+      choice = choice;
+    }

@@ -1,54 +1,102 @@
--- The statement of demand 1: "Any state, request, beacon list or outcome handed to a public entry gets the step made or one of refusals 1 to 5; after a refusal the
--- state is the one handed in". The numbers and their order are those of 01, "When a call is turned down".
-use Prim.Native.Nat.{ℕ, zero, suc, _≤_}
+-- The statement of demand 1: "Any state, request, beacon list or outcome handed to a public entry gets the step made or one of the numbered refusals; after a refusal the
+-- state, and every lent buffer, is as handed in. No prior check is expected of the caller." The numbers, their order and their conditions stand here as 01 has them ("When a
+-- call is turned down"), and rest on no definition of a refusal or of its tests.
+use Prim.Native.Nat.{ℕ, suc, _-_, _<_, _≤_}
 use mathlib.Core.Path.{_≡_}
-use mathlib.Core.Bool.{Bool, false, cond}
+use mathlib.Core.Bool.{Bool, false}
+use mathlib.Core.List.{List, [], _∷_, map}
+use mathlib.Core.Logic.{_⊎_, _↔_}
+use lib.ListN.{take, drop}
+use Rattle.mlme.specs.declared.Address.{Address}
 use Rattle.parent_timer.specs.declared.ParentTimer.{ParentTimer}
-use Rattle.operation.specs.Operation.{isIdle, awaitsScan, awaitsAssociation, awaitsTransmission, awaitsReception, isRefused}
+use Rattle.operation.specs.declared.Purpose.{Purpose}
+use Rattle.operation.specs.declared.ScanFor.{ScanFor}
+use Rattle.operation.specs.declared.TransmissionFor.{TransmissionFor}
 use Rattle.operation.specs.declared.Phase.{Phase}
-use Rattle.scans.specs.Scans.{listRefusal}
-use Rattle.node.specs.Refusals.{refuse, bad}
-use Rattle.node.specs.Calls.{choose}
-use Rattle.node.specs.Runs.{Call, discovery, join, send, poll, receive, timeout, scan, association, transmission, reception, elapsed, takeLeave, takeStatus, answer}
+use Rattle.operation.specs.declared.Note.{Note}
+use Rattle.operation.specs.declared.Step.{Step}
+use Rattle.node.specs.Calls.{Call, discovery, join, send, poll, receive, timeout, scan, association, transmission, reception, elapsed, takeLeave, takeStatus, answer, scanned, choose}
 use Rattle.node.specs.declared.State.{State}
 use Rattle.node.specs.declared.Answer.{Answer}
+use Rattle.node.specs.declared.ScanOutcome.{ScanOutcome}
 use Rattle.lent_tick.specs.LentTick.{lentTick}
-use Rattle.lent_tick.specs.declared.LentTicked.{LentTicked}
 
--- "Start ..: .. then 1 if an operation is under way. Outcome: .. then 2 if no request awaits that kind; for a scan, 3 above 27 descriptors, then 4 above 16 short-addressed
--- ones. Tick, .. taking an indication: 5 only." 0 for none; of a scan that failed no list is looked at
-abbrev pub unfit : Phase → Call → ℕ
-unfit p (discovery r) = cond (isIdle p) 0 1
-unfit p (join r) = cond (isIdle p) 0 1
-unfit p (send destination secure) = cond (isIdle p) 0 1
-unfit p poll = cond (isIdle p) 0 1
-unfit p receive = cond (isIdle p) 0 1
-unfit p (timeout keepalive) = cond (isIdle p) 0 1
-unfit p (scan o) = cond (awaitsScan p) (cond (o .failed) 0 (listRefusal (o .list))) 2
-unfit p (association o) = cond (awaitsAssociation p) 0 2
-unfit p (transmission ok) = cond (awaitsTransmission p) 0 2
-unfit p (reception o) = cond (awaitsReception p) 0 2
-unfit p (elapsed ms) = 0
-unfit p takeLeave = 0
-unfit p takeStatus = 0
+abbrev pub phase : State → Phase
+phase s = s .control .operation .phase
 
--- the number of the refusal that a call gets, 0 for none; 5 comes first for every call
-abbrev pub refusal : State → Call → ℕ
-refusal s c = cond (bad s) 5 (unfit (s .control .operation .phase) c)
+-- an index of a list is not below n
+abbrev pub Past : ℕ → List ℕ → Type 0
+Past n [] = ⊥
+Past n (i ∷ is) = (n ≤ i) ⊎ Past n is
 
--- with number 0 the step is made; with another the answer is that refusal, with the state handed in, no note, no reset and no polls
-abbrev pub MadeOr : State → ℕ → Answer → Type 0
-MadeOr s zero a = isRefused (a .step) ≡ false
-MadeOr s (suc k) a = a ≡ refuse (suc k) s
+-- 5 "if a count in the state is above 16, polls left above 20, or an index being tried or still to be tried in an association is not below the neighbour count". How
+-- many candidates have been taken is such a count too; the last of them is being tried
+pub data Bad (s : State) : Type 0 where
+  neighbours : 16 < s .table .count → Bad s
+  failures : 16 < s .control .nlme .«transmit_failures» .count → Bad s
+  candidates : 16 < s .candidates .list .count → Bad s
+  taken : 16 < s .candidates .taken → Bad s
+  polls : 20 < s .control .operation .«polls_left» → Bad s
+  index : phase s ≡ Phase.Association
+      → Past (s .table .count) (drop (s .candidates .taken - 1) (take (s .candidates .list .count) (s .candidates .list .indexes))) → Bad s
 
--- the same of a tick over a lent record: a refusal leaves the record as it was lent ("State and lent buffers then stay as handed in")
-abbrev pub LentOr : ParentTimer → State → ℕ → LentTicked → Type 0
-LentOr t s zero l = isRefused (l .answer .step) ≡ false
-LentOr t s (suc k) l = l ≡ record { timer = t; answer = refuse (suc k) s }
+-- 1 "if an operation is under way"
+abbrev pub UnderWay : State → Type 0
+UnderWay s = phase s ≡ Phase.Idle → ⊥
 
--- the claim: whatever call is made on whatever state; of the tick over a lent record, and of the choice of candidates, which has no state to hand back, "5 only"
+-- how many addresses are short
+abbrev pub shorts : List Address → ℕ
+shorts [] = 0
+shorts (Address.Short pan address ∷ rest) = suc (shorts rest)
+shorts (Address.Extended pan address ∷ rest) = shorts rest
+
+-- "for a scan, 3 above 27 descriptors, then 4 above 16 short-addressed ones". A failed scan's list is not looked at: however long it is, that is neither 3 nor 4
+abbrev pub Above27 : ScanOutcome → Type 0
+Above27 o = (o .failed ≡ false) × (27 < o .list .count)
+
+abbrev pub Above16 : ScanOutcome → Type 0
+Above16 o = (o .failed ≡ false) × (16 < shorts (map (λ d. d .«coord_address») (take (o .list .count) (o .list .descriptors))))
+
+-- the numbers that a call can give, each with its condition, in the order in which these are looked at; 2 "if no request awaits that kind"
+abbrev pub numbers : State → Call → List (ℕ × Type 0)
+numbers s (discovery r) = (5, Bad s) ∷ (1, UnderWay s) ∷ []
+numbers s (join r) = (5, Bad s) ∷ (1, UnderWay s) ∷ []
+numbers s (send destination secure) = (5, Bad s) ∷ (1, UnderWay s) ∷ []
+numbers s poll = (5, Bad s) ∷ (1, UnderWay s) ∷ []
+numbers s receive = (5, Bad s) ∷ (1, UnderWay s) ∷ []
+numbers s (timeout u) = (5, Bad s) ∷ (1, UnderWay s) ∷ []
+numbers s (scan o) = (5, Bad s) ∷ (2, (u : ScanFor) → phase s ≡ Phase.Scan u → ⊥) ∷ (3, Above27 o) ∷ (4, Above16 o) ∷ []
+numbers s (association o) = (5, Bad s) ∷ (2, phase s ≡ Phase.Association → ⊥) ∷ []
+numbers s (transmission ok) = (5, Bad s) ∷ (2, (u : TransmissionFor) → phase s ≡ Phase.Transmission u → ⊥) ∷ []
+numbers s (reception o) = (5, Bad s) ∷ (2, (u : Purpose) → phase s ≡ Phase.Reception u → ⊥) ∷ []
+numbers s (elapsed ms) = (5, Bad s) ∷ []
+numbers s takeLeave = (5, Bad s) ∷ []
+numbers s takeStatus = (5, Bad s) ∷ []
+
+-- k is the number of the first condition that holds
+abbrev pub First : ℕ → List (ℕ × Type 0) → Type 0
+First k [] = ⊥
+First k (c ∷ cs) = ((c .0 ≡ k) × c .1) ⊎ ((c .1 → ⊥) × First k cs)
+
+-- turned down by k: the state is the one handed in, and nothing but the number is said
+pub record TurnedDown (k : ℕ) (s : State) (a : Answer) : Type 0 where
+  pub state : a .state ≡ s
+  pub step : a .step ≡ Step.Refused k
+  pub note : a .note ≡ Note.NoNote
+  pub reset : a .reset ≡ false
+  pub polls : a .«polls_used» ≡ 0
+
+-- k is given if its condition is the first that holds, and only then; where none holds the step is made
+pub record Answered (s : State) (cs : List (ℕ × Type 0)) (a : Answer) : Type 0 where
+  pub given : (k : ℕ) → First k cs → TurnedDown k s a
+  pub only : (k : ℕ) → a .step ≡ Step.Refused k → First k cs
+
+-- the claim: of any call on any state, a scan's with its confirm too; of the tick over a lent record ("State and lent buffers then stay as handed in"); and of the choice of
+-- candidates, which has no state to hand back and says 0 for none
 pub record Demand1 : Type 0 where
-  pub answered : (s : State) (c : Call) → MadeOr s (refusal s c) (answer s c)
-  pub lent : (t : ParentTimer) (elapsed : ℕ) (s : State) → LentOr t s (cond (bad s) 5 0) (lentTick t elapsed s)
-  pub numbered : (s : State) (c : Call) → refusal s c ≤ 5
-  pub choice : (n : ℕ) (router permit : Bool) (s : State) → choose n router permit s .refusal ≡ cond (bad s) 5 0
+  pub answered : (s : State) (c : Call) → Answered s (numbers s c) (answer s c)
+  pub confirmed : (s : State) (o : ScanOutcome) → Answered s (numbers s (scan o)) (scanned o s .answer)
+  pub lent : (t : ParentTimer) (ms : ℕ) (s : State) → Answered s ((5, Bad s) ∷ []) (lentTick t ms s .answer)
+  pub record-kept : (t : ParentTimer) (ms : ℕ) (s : State) → Bad s → lentTick t ms s .timer ≡ t
+  pub choice : (n : ℕ) (router permit : Bool) (s : State)
+      → ((choose n router permit s .refusal ≡ 5) ↔ Bad s) × ((choose n router permit s .refusal ≡ 0) ↔ (Bad s → ⊥))

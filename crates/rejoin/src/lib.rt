@@ -2,7 +2,6 @@
 ghost use mathlib.Core.Path.{_≡_};
 ghost use Rattle.nlme.specs.Nlme.{seqUsed};
 ghost use Rattle.operation.specs.Operation.{withPolls, awaiting};
-ghost use Rattle.operation.specs.declared.Phase.the-variants.{RejoinSend};
 ghost use Rattle.rejoin.specs.Rejoin.{invalid, resolved, operationFor, noResponse, rejoinRequest, trying, scanOrEnd, tryRemembered, begun, rejoinStarted, adopting, tryNext};
 use frame::SentFrame;
 use management::NlmeJoinRequest;
@@ -20,7 +19,9 @@ use operation::Note;
 use operation::Operation;
 use operation::Phase;
 use operation::RadioRequest;
+use operation::ScanFor;
 use operation::Step;
+use operation::TransmissionFor;
 
 // The polls of one try.
 const REJOIN_RESPONSE_POLL_RETRIES: u8 = 20;
@@ -58,10 +59,11 @@ fn network_of(request: NlmeJoinRequest, nlme: Nlme) -> ExtendedPanId
 fn operation_for(request: NlmeJoinRequest, nlme: Nlme) -> Operation
     ensures { λ r. ⌜ r ≡ operationFor request nlme ⌝ }
 {
+    let phase = Phase::Transmission(TransmissionFor::RejoinRequest);
     let extended_pan_id = network_of(request, nlme);
     let scan = request.scan;
     Operation {
-        phase: Phase::RejoinSend,
+        phase,
         extended_pan_id,
         security_enabled: request.security_enabled,
         scan,
@@ -100,11 +102,11 @@ fn rejoin_request(parent: NwkNeighbor, control: Control) -> RadioRequest
 
 // The control part of a try that begins.
 fn ready(mut control: Control) -> Control
-    ensures { λ r. ⌜ r ≡ record { nlme = noResponse (seqUsed (control .nlme)); operation = withPolls 20 (awaiting RejoinSend (control .operation)) } ⌝ }
+    ensures { λ r. ⌜ r ≡ record { nlme = noResponse (seqUsed (control .nlme)); operation = withPolls 20 (awaiting (Phase.Transmission TransmissionFor.RejoinRequest) (control .operation)) } ⌝ }
 {
     let mut nlme = control.nlme.use_nwk_seq();
     nlme = without_response(nlme);
-    control = operation::in_phase(control, Phase::RejoinSend);
+    control = operation::in_phase(control, Phase::Transmission(TransmissionFor::RejoinRequest));
     control.operation.polls_left = REJOIN_RESPONSE_POLL_RETRIES;
     control.nlme = nlme;
     control
@@ -128,7 +130,11 @@ pub fn scan_or_end(status: NlmeJoinStatus, mut control: Control) -> Decision
         return join::failing(status, control);
     }
     control.operation.scanned = true;
-    operation::asking(Phase::RejoinScan, RadioRequest::Scan(scan), control)
+    operation::asking(
+        Phase::Scan(ScanFor::Rejoin),
+        RadioRequest::Scan(scan),
+        control,
+    )
 }
 
 fn try_remembered(parent: Neighbor, control: Control) -> Decision

@@ -1,32 +1,37 @@
 -- A measure of what is left of a rejoin, and that every decision of a rejoin lowers it. Assumes nothing.
-use Prim.Native.Nat.{ℕ, suc, _+_, _-_, _*_, _<_, _≤_, min, zero-le}
-use mathlib.Core.Path.{_≡_, refl, sym}
-use mathlib.Core.Bool.{Bool, true, false, cond, _||_, false≢true}
+use Prim.Native.Nat.{ℕ, suc, _+_, _-_, _*_, _<_, _≤_, zero-le}
+use mathlib.Core.Path.{_≡_, refl, sym, ap, subst, subst⁻¹, _∙_}
+use mathlib.Core.Bool.{Bool, true, false, cond, false≢true}
+use mathlib.Core.List.{List}
 use native.Mathlib.Omega.{arith}
 use lib.Dec.{eqb, ltb, leb}
-use borrow.Author.Tests.{ltb-false, eqb-false}
+use lib.ListN.{length, getD, length-drop, List·getD-eq-default}
+use borrow.Author.Tests.{ltb-true, ltb-false, eqb-false}
+use Rattle.lists.proofs.Conditions.{split, neither}
+use Rattle.nib.specs.Neighbors.{entryAt, blank}
+use Rattle.nib.specs.declared.NwkNeighbor.{NwkNeighbor}
 use Rattle.nib.specs.declared.Neighbor.{Neighbor}
-use Rattle.nib.specs.declared.Neighbor.the-variants.{Absent, Entry}
+use Rattle.neighbor_table.specs.NeighborTable.{seenIn}
+use Rattle.neighbor_table.proofs.Entries.{entries-on, adopted-long}
+use Rattle.candidates.specs.Candidates.{itemsOf}
 use Rattle.management.specs.declared.NlmeJoinStatus.{NlmeJoinStatus}
-use Rattle.management.specs.declared.NlmeJoinStatus.the-variants.{MacError}
 use Rattle.management.specs.declared.RejoinResponseSlot.{RejoinResponseSlot}
-use Rattle.management.specs.declared.RejoinResponseSlot.the-variants.{NoRejoinResponse, HasRejoinResponse}
 use Rattle.operation.specs.declared.Purpose.{Purpose}
-use Rattle.operation.specs.declared.Purpose.the-variants.{RejoinResponse, SinglePoll, SingleReceive, TimeoutResponse}
+use Rattle.operation.specs.declared.ScanFor.{ScanFor}
+use Rattle.operation.specs.declared.TransmissionFor.{TransmissionFor}
 use Rattle.operation.specs.declared.Phase.{Phase}
-use Rattle.operation.specs.declared.Phase.the-variants.{Idle, Discovery, RejoinScan, Association, RejoinSend, DataSend, TimeoutSend, LeaveSend, Reception}
 use Rattle.operation.specs.declared.Operation.{Operation}
 use Rattle.operation.specs.declared.Control.{Control}
-use Rattle.operation.specs.declared.RadioRequest.the-variants.{Scan}
+use Rattle.operation.specs.declared.RadioRequest.{RadioRequest}
+use Rattle.operation.specs.declared.Move.{Move}
 use Rattle.operation.specs.declared.Decision.{Decision}
-use Rattle.operation.specs.Operation.{withNlme, withOperation, withPolls, scanAsked, asking}
-use Rattle.join.specs.Join.{failing, statusOf}
-use Rattle.rejoin.specs.Rejoin.{noResponse, trying, scanOrEnd, tryCandidate, tryNext, tryFailed, rejoined, responded, polling, unanswered, pollParent, answeredBy, pollOn, requestSent}
-use Rattle.tries.specs.Tries.{skipped, taking}
-use Rattle.node.specs.Looks.{parent, next, moved, potentialCleared, finish}
+use Rattle.operation.specs.Operation.{withNlme, withOperation, scanAsked, withPollsLeft, asking, polled, pollOn}
+use Rattle.join.specs.Join.{failing, failedStatus}
+use Rattle.rejoin.specs.Rejoin.{noResponse, trying, scanOrEnd, tryCandidate, tryNext, tryFailed, rejoined, responded, answeredBy, requestSent}
+use Rattle.tries.specs.Tries.{toTry, skipped, nextIndex, nextIn, taking, adoptedNext}
+use Rattle.tries.specs.declared.Candidates.{Candidates}
+use Rattle.node.specs.Looks.{entries, next, moved, potentialCleared, finish}
 use Rattle.node.specs.Refusals.{bad}
-use Rattle.node.specs.Calls.{scanned}
-use Rattle.node.specs.Runs.{scan}
 use Rattle.node.specs.declared.State.{State}
 
 -- THE MEASURE
@@ -45,21 +50,21 @@ still s o = 2 * o .«polls_left» + later s o
 
 -- what is left in a phase: k is the above, j what is left before the scan's outcome
 abbrev pub ifRejoin : Purpose → ℕ → ℕ
-ifRejoin RejoinResponse k = k
-ifRejoin SinglePoll k = 0
-ifRejoin SingleReceive k = 0
-ifRejoin (TimeoutResponse keepalive) k = 0
+ifRejoin Purpose.RejoinResponse k = k
+ifRejoin Purpose.SinglePoll k = 0
+ifRejoin Purpose.SingleReceive k = 0
+ifRejoin (Purpose.TimeoutResponse u) k = 0
 
 abbrev pub toCome : Phase → ℕ → ℕ → ℕ
-toCome Idle k j = 0
-toCome Discovery k j = 0
-toCome RejoinScan k j = j
-toCome Association k j = 0
-toCome RejoinSend k j = 1 + k
-toCome DataSend k j = 0
-toCome (TimeoutSend keepalive) k j = 0
-toCome (LeaveSend p rejoin) k j = ifRejoin p (1 + k)
-toCome (Reception p) k j = ifRejoin p (2 + k)
+toCome Phase.Idle k j = 0
+toCome (Phase.Scan ScanFor.Discovery) k j = 0
+toCome (Phase.Scan ScanFor.Rejoin) k j = j
+toCome Phase.Association k j = 0
+toCome (Phase.Transmission TransmissionFor.RejoinRequest) k j = 1 + k
+toCome (Phase.Transmission TransmissionFor.Data) k j = 0
+toCome (Phase.Transmission (TransmissionFor.TimeoutRequest u)) k j = 0
+toCome (Phase.Transmission (TransmissionFor.Leave l)) k j = ifRejoin (l .purpose) (1 + k)
+toCome (Phase.Reception u) k j = ifRejoin u (2 + k)
 
 abbrev pub weight : Phase → State → ℕ
 weight p s = toCome p (still s (s .control .operation)) (42 + rest (s .control .operation .scanned) 1)
@@ -87,15 +92,11 @@ rest-true : (b : Bool) (t : ℕ) → b ≡ true → t < 16 → 41 + rest b (suc 
 rest-true true t q h = omega arith
 rest-true false t q h = absurd (false≢true q)
 
-rest-on : (b : Bool) (t x : ℕ) → min (t + x + 1) 255 ≤ 16 → rest b (min (t + x + 1) 255) ≤ rest b (suc t)
-rest-on true t x h = omega arith
-rest-on false t x h = omega arith
+rest-on : (b : Bool) (t u : ℕ) → suc t ≤ u → rest b u ≤ rest b (suc t)
+rest-on true t u h = omega arith
+rest-on false t u h = omega arith
 
 -- refusal 5 looks at the number of candidates taken
-neither : (a b : Bool) → (a || b) ≡ false → (a ≡ false) × (b ≡ false)
-neither true b h = absurd (false≢true (sym h))
-neither false b h = (refl, h)
-
 few-taken : (s : State) → bad s ≡ false → s .candidates .taken ≤ 16
 unfolding bad
 few-taken s h =
@@ -108,6 +109,36 @@ few-taken s h =
 pub either : {A : Type 0} (P : A → Type 0) (b : Bool) {x y : A} → (b ≡ true → P x) → (b ≡ false → P y) → P (cond b x y)
 either P true f g = f refl
 either P false f g = g refl
+
+-- where there is a next candidate, one more is taken
+
+abbrev IsEntry : Neighbor → Type 0
+IsEntry Neighbor.Absent = ⊥
+IsEntry (Neighbor.Entry e) = Unit {0}
+
+entry-below : (es : List NwkNeighbor) (i : ℕ) → IsEntry (seenIn es (entryAt es i)) → i < length es
+entry-below es i h = go (ltb i (length es)) refl h
+  where
+    go : (b : Bool) → ltb i (length es) ≡ b → IsEntry (seenIn es (cond b (Neighbor.Entry (getD es i blank)) Neighbor.Absent)) → i < length es
+    go true q h = ltb-true i (length es) q
+    go false q h = absurd h
+
+taken-more : (es : List NwkNeighbor) (c : Candidates) → IsEntry (nextIn es c) → suc (c .taken) ≤ taking (length es) c .taken
+unfolding nextIn nextIndex taking
+taken-more es c h =
+    let k = skipped (length es) c in
+    let below : getD (toTry c) k (length es) < length es = entry-below es (nextIndex (length es) c) h in
+    let some : k < length (toTry c) =
+    split (ltb k (length (toTry c))) (ltb-true k (length (toTry c)))
+    (λ t. absurd (omega (arith, List·getD-eq-default (toTry c) (length es) (ltb-false k (length (toTry c)) t)))) in
+    omega (arith, length-drop (c .taken) (itemsOf (c .list)))
+
+adopted-more : (s : State) → IsEntry (next s) → suc (s .candidates .taken) ≤ moved Move.AdoptNext s .candidates .taken
+unfolding moved adoptedNext
+adopted-more s h =
+    let c = s .candidates in
+    let long : length (adoptedNext c (entries s)) ≡ length (entries s) = adopted-long (nextIndex (length (entries s)) c) (entries s) in
+    subst⁻¹ (λ (n : ℕ). suc (c .taken) ≤ taking n c .taken) (ap length (entries-on (adoptedNext c) (s .table) long) ∙ long) (taken-more (entries s) c h)
 
 -- DECISIONS
 
@@ -132,48 +163,41 @@ module _ {m : ℕ} (s : State) where
   unfolding scanOrEnd finish moved potentialCleared
   scanOrEnd-drops st c h =
       either (Drops m s) (leb (c .operation .scan .past) (c .operation .scan .first)) (λ _. failing-drops st c (omega arith))
-      (λ _. drops s (asking RejoinScan (Scan (c .operation .scan)) (withOperation (scanAsked (c .operation)) c)) h)
+      (λ _. drops s (asking (Phase.Scan ScanFor.Rejoin) (RadioRequest.Scan (c .operation .scan)) (withOperation (scanAsked (c .operation)) c)) h)
 
-  pub tryNext-drops : (st : NlmeJoinStatus) (next : Neighbor) (c : Control) → 1 ≤ m
-      → (s .candidates .taken < 16 → 42 + rest (c .operation .scanned) (suc (s .candidates .taken)) ≤ m) → Drops m s (tryNext st next c)
-  unfolding tryNext tryCandidate trying finish moved potentialCleared taking
-  tryNext-drops st Absent c l h = failing-drops st c l
-  tryNext-drops st (Entry e) c l h =
+  -- the next candidate is tried, of those that the state has
+  pub tryNext-drops : (st : NlmeJoinStatus) (x : Neighbor) (c : Control) → x ≡ next s → 1 ≤ m
+      → (s .candidates .taken < 16 → 42 + rest (c .operation .scanned) (suc (s .candidates .taken)) ≤ m) → Drops m s (tryNext st x c)
+  unfolding tryNext tryCandidate trying finish moved potentialCleared
+  tryNext-drops st Neighbor.Absent c q l h = failing-drops st c l
+  tryNext-drops st (Neighbor.Entry e) c q l h =
       drops-if s (tryCandidate e c) l
-      (λ b. let few : min (s .candidates .taken + skipped _ (s .candidates) + 1) 255 ≤ 16 = few-taken (finish false s (tryCandidate e c) .state) b in
-      omega (arith, h (omega arith), rest-on (c .operation .scanned) (s .candidates .taken) _ few))
+      (λ b. let after = finish false s (tryCandidate e c) .state in
+      let more : suc (s .candidates .taken) ≤ after .candidates .taken = adopted-more s (subst IsEntry q tt) in
+      omega (arith, h (omega (arith, few-taken after b)), rest-on (c .operation .scanned) (s .candidates .taken) (after .candidates .taken) more))
 
-  tryFailed-drops : (st : NlmeJoinStatus) (next : Neighbor) (c : Control) → suc (later s (c .operation)) ≤ m → Drops m s (tryFailed st next c)
+  tryFailed-drops : (st : NlmeJoinStatus) (c : Control) → suc (later s (c .operation)) ≤ m → Drops m s (tryFailed st (next s) c)
   unfolding tryFailed
-  tryFailed-drops st next c h =
+  tryFailed-drops st c h =
       either (Drops m s) (c .operation .scanned)
-      (λ q. tryNext-drops st next c (omega arith) (λ l. omega (arith, rest-true (c .operation .scanned) (s .candidates .taken) q l)))
+      (λ q. tryNext-drops st (next s) c refl (omega arith) (λ l. omega (arith, rest-true (c .operation .scanned) (s .candidates .taken) q l)))
       (λ q. scanOrEnd-drops st c (omega (arith, rest-false (c .operation .scanned) (s .candidates .taken) q)))
 
-  unanswered-drops : (next : Neighbor) (c : Control) → suc (later s (c .operation)) ≤ m → Drops m s (unanswered next c)
-  unfolding unanswered finish
-  unanswered-drops next c h = record { fits = tryFailed-drops MacError next (withOperation (withPolls 0 (c .operation)) c) h .fits }
+  polls-drop : (p : Neighbor) (c : Control) → suc (still s (c .operation)) ≤ m → Drops m s (pollOn Purpose.RejoinResponse p (tryFailed NlmeJoinStatus.MacError (next s)) c)
+  unfolding pollOn finish moved potentialCleared
+  polls-drop Neighbor.Absent c h = tryFailed-drops _ (withPollsLeft 0 c) (omega arith)
+  polls-drop (Neighbor.Entry p) c h =
+      either (Drops m s) (eqb (c .operation .«polls_left») 0) (λ _. tryFailed-drops _ (withPollsLeft 0 c) (omega arith))
+      (λ q. drops s (polled Purpose.RejoinResponse p (withPollsLeft (c .operation .«polls_left» - 1) c)) (omega (arith, eqb-false (c .operation .«polls_left») 0 q)))
 
-  pollParent-drops : (parent next : Neighbor) (c : Control) → (c .operation .«polls_left» ≡ 0 → ⊥) → suc (still s (c .operation)) ≤ m
-      → Drops m s (pollParent parent next c)
-  unfolding pollParent polling finish moved potentialCleared
-  pollParent-drops Absent next c n h = unanswered-drops next c (omega arith)
-  pollParent-drops (Entry p) next c n h = drops s (polling p c) (omega arith)
-
-  answeredBy-drops : (a : RejoinResponseSlot) (parent next : Neighbor) (c : Control) → suc (still s (c .operation)) ≤ m → Drops m s (answeredBy a parent next c)
+  pub answeredBy-drops : (a : RejoinResponseSlot) (p : Neighbor) (c : Control) → suc (still s (c .operation)) ≤ m → Drops m s (answeredBy a p (next s) c)
   unfolding answeredBy responded rejoined finish moved potentialCleared
-  answeredBy-drops (HasRejoinResponse r) parent next c h =
+  answeredBy-drops (RejoinResponseSlot.HasRejoinResponse r) p c h =
       either (Drops m s) (eqb (r .status) 0) (λ _. drops s (rejoined r (withNlme (noResponse (c .nlme)) c)) (omega arith))
-      (λ _. tryFailed-drops (statusOf (r .status)) next (withNlme (noResponse (c .nlme)) c) (omega arith))
-  answeredBy-drops NoRejoinResponse parent next c h =
-      either (Drops m s) (eqb (c .operation .«polls_left») 0) (λ _. unanswered-drops next c (omega arith))
-      (λ q. pollParent-drops parent next c (eqb-false (c .operation .«polls_left») 0 q) h)
+      (λ _. tryFailed-drops (failedStatus (r .status)) (withNlme (noResponse (c .nlme)) c) (omega arith))
+  answeredBy-drops RejoinResponseSlot.NoRejoinResponse p c h = polls-drop p c h
 
-  pub pollOn-drops : (parent next : Neighbor) (c : Control) → suc (still s (c .operation)) ≤ m → Drops m s (pollOn parent next c)
-  unfolding pollOn
-  pollOn-drops parent next c h = answeredBy-drops (c .nlme .signals .«rejoin_response») parent next c h
-
-  pub requestSent-drops : (ok : Bool) (parent next : Neighbor) (c : Control) → suc (still s (c .operation)) ≤ m → Drops m s (requestSent ok parent next c)
+  pub requestSent-drops : (ok : Bool) (p : Neighbor) (c : Control) → suc (still s (c .operation)) ≤ m → Drops m s (requestSent ok p (next s) c)
   unfolding requestSent
-  requestSent-drops true parent next c h = pollOn-drops parent next c h
-  requestSent-drops false parent next c h = tryFailed-drops MacError next c (omega arith)
+  requestSent-drops true p c h = answeredBy-drops (c .nlme .signals .«rejoin_response») p c h
+  requestSent-drops false p c h = tryFailed-drops _ c (omega arith)

@@ -1,57 +1,47 @@
--- The polls that a step of a rejoin reports are those that it requests. Assumes nothing.
-use mathlib.Core.Path.{_≡_, refl, _∙_}
-use mathlib.Core.Bool.{Bool, true, false, cond}
-use lib.Dec.{eqb, leb}
-use borrow.Author.Tests.{eqb-true}
-use Rattle.nib.specs.declared.NwkNeighbor.{NwkNeighbor}
-use Rattle.nib.specs.declared.Neighbor.{Neighbor}
-use Rattle.nib.specs.declared.Neighbor.the-variants.{Absent, Entry}
-use Rattle.management.specs.declared.NlmeJoinStatus.{NlmeJoinStatus}
-use Rattle.management.specs.declared.RejoinResponseSlot.{RejoinResponseSlot}
-use Rattle.management.specs.declared.RejoinResponseSlot.the-variants.{HasRejoinResponse, NoRejoinResponse}
-use Rattle.operation.specs.declared.Control.{Control}
-use Rattle.operation.specs.declared.Decision.{Decision}
-use Rattle.rejoin.specs.Rejoin.{trying, scanOrEnd, tryCandidate, tryNext, tryFailed, rejoined, responded, polling, unanswered, pollParent, answeredBy, pollOn}
-use Rattle.rejoin_bound.specs.Polls.{pollsAsked, PollsEqual}
+-- The polls that answers report are those that they request. Assumes nothing.
+use Prim.Native.Nat.{ℕ, _+_}
+use mathlib.Core.Path.{_≡_, refl, ap₂, subst⁻¹}
+use mathlib.Core.List.{List, [], _∷_}
+use Rattle.operation.specs.declared.RadioRequest.{RadioRequest}
+use Rattle.operation.specs.declared.Step.{Step}
+use Rattle.node.specs.Refusals.{refuse}
+use Rattle.node.specs.Calls.{Call, answer}
+use Rattle.node.specs.declared.State.{State}
+use Rattle.node.specs.declared.Answer.{Answer}
+use Rattle.refusals.proofs.Decisions.{Uses}
+use Rattle.refusals.proofs.Refusals.{Gets, done, turned, passed, answer-made}
+use Rattle.rejoin_bound.specs.Polls.{pollsAsked, total, PollsEqual}
 
--- a decision reports what it requests
-abbrev Even : Decision → Type 0
-Even d = d .«polls_used» ≡ pollsAsked (d .step)
+uses-asked : (x : Step) (n : ℕ) → Uses x n → n ≡ pollsAsked x
+uses-asked (Step.Ask (RadioRequest.Poll network address)) n h = h
+uses-asked (Step.Ask (RadioRequest.Scan r)) n h = h
+uses-asked (Step.Ask (RadioRequest.Associate r)) n h = h
+uses-asked (Step.Ask (RadioRequest.Transmit t)) n h = h
+uses-asked (Step.Ask RadioRequest.Receive) n h = h
+uses-asked (Step.Refused k) n h = absurd h
+uses-asked Step.Discovered n h = h
+uses-asked Step.DiscoveryFailed n h = h
+uses-asked (Step.Joined x) n h = h
+uses-asked (Step.Sent x) n h = h
+uses-asked (Step.Polled x) n h = h
+uses-asked (Step.NegotiationOver x) n h = h
+uses-asked (Step.KeepaliveOver x) n h = h
+uses-asked (Step.Expired x) n h = h
+uses-asked (Step.LeaveTaken x) n h = h
+uses-asked (Step.StatusTaken x) n h = h
 
--- one that neither reports nor requests a poll
-abbrev Without : Decision → Type 0
-Without d = (d .«polls_used» ≡ 0) × (0 ≡ pollsAsked (d .step))
+answer-asked : {s : State} {a : Answer} {cs : List (ℕ × Type 0)} → Gets s a cs → a .«polls_used» ≡ pollsAsked (a .step)
+unfolding refuse
+answer-asked {a = a} (done h) = uses-asked (a .step) (a .«polls_used») h
+answer-asked (turned h e) = subst⁻¹ (λ (x : Answer). x .«polls_used» ≡ pollsAsked (x .step)) e refl
+answer-asked (passed n g) = answer-asked g
 
-pick : (P : Decision → Type 0) (b : Bool) (x y : Decision) → P x → P y → P (cond b x y)
-pick P true x y p q = p
-pick P false x y p q = q
+by-call : (s : State) (c : Call) → answer s c .«polls_used» ≡ pollsAsked (answer s c .step)
+by-call s c = answer-asked (answer-made s c)
 
-scan-none : (st : NlmeJoinStatus) (c : Control) → Without (scanOrEnd st c)
-unfolding scanOrEnd
-scan-none st c = pick Without (leb (c .operation .scan .past) (c .operation .scan .first)) _ _ (refl, refl) (refl, refl)
-
-next-none : (st : NlmeJoinStatus) (x : Neighbor) (c : Control) → Without (tryNext st x c)
-unfolding tryNext tryCandidate trying
-next-none st Absent c = (refl, refl)
-next-none st (Entry e) c = (refl, refl)
-
-failed-none : (st : NlmeJoinStatus) (x : Neighbor) (c : Control) → Without (tryFailed st x c)
-unfolding tryFailed
-failed-none st x c = pick Without (c .operation .scanned) _ _ (next-none st x c) (scan-none st c)
-
-failed-even : (st : NlmeJoinStatus) (x : Neighbor) (c : Control) → Even (tryFailed st x c)
-failed-even st x c = let n = failed-none st x c in n .0 ∙ n .1
-
-polled-even : (e : NwkNeighbor) (x : Neighbor) (c : Control) (b : Bool) → eqb (c .operation .«polls_left») 0 ≡ b → Even (cond b (unanswered x c) (pollParent (Entry e) x c))
-unfolding unanswered pollParent polling
-polled-even e x c true h = eqb-true (c .operation .«polls_left») 0 h ∙ failed-none _ x _ .1
-polled-even e x c false h = refl
-
-answered-even : (s : RejoinResponseSlot) (e : NwkNeighbor) (x : Neighbor) (c : Control) → Even (answeredBy s (Entry e) x c)
-unfolding answeredBy responded rejoined
-answered-even (HasRejoinResponse r) e x c = pick Even (eqb (r .status) 0) _ _ refl (failed-even _ x _)
-answered-even NoRejoinResponse e x c = polled-even e x c (eqb (c .operation .«polls_left») 0) refl
+by-list : (s : State) (cs : List Call) → total (λ a. a .«polls_used») s cs ≡ total (λ a. pollsAsked (a .step)) s cs
+by-list s [] = refl
+by-list s (c ∷ cs) = ap₂ _+_ (by-call s c) (by-list (answer s c .state) cs)
 
 pub polls-equal : PollsEqual
-unfolding pollOn
-polls-equal e x c = answered-even (c .nlme .signals .«rejoin_response») e x c
+polls-equal = record { by-call = by-call; by-list = by-list }

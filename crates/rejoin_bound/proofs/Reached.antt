@@ -25,13 +25,12 @@ use Rattle.management.specs.declared.StatusIndicationSlot.the-variants.{NoStatu
 use Rattle.frame.specs.declared.ReceivedFrame.the-variants.{LeaveCommand}
 use Rattle.nlme.specs.Nlme.{negotiationReset}
 use Rattle.received.specs.Received.{taughtBy, taught, acceptsLeave, leaveRequested, leaveHandled, handled, leftFor, leaveAnnounced}
+use Rattle.operation.specs.Operation.{pollOn}
 use Rattle.operation.specs.declared.Phase.the-variants.{Idle}
-use Rattle.rejoin.specs.Rejoin.{invalid, trying, scanOrEnd, tryRemembered, rejoinStarted, tryCandidate, tryNext, tryFailed, polling, unanswered, pollParent, answeredBy, pollOn, requestSent}
+use Rattle.rejoin.specs.Rejoin.{invalid, trying, scanOrEnd, tryRemembered, rejoinStarted, tryCandidate, tryNext, tryFailed, answeredBy, requestSent}
 use Rattle.node.specs.Looks.{moved, potentialCleared, finish}
-use Rattle.node.specs.Refusals.{indexPastTable, bad, startOrRefusal, otherOrRefusal}
-use Rattle.steps.specs.Steps.{continuing}
-use Rattle.node.specs.Calls.{joinBy, startJoin, heard, chosen, rejoinHeard, scanFound, scanListed, scanned, changed, after, receivedFor, receivedIn, receptionOver, afterLeave, sentIn, transmissionOver}
-use Rattle.node.specs.Runs.{Call, scan, transmission, reception}
+use Rattle.node.specs.Refusals.{bad, outcome}
+use Rattle.node.specs.Calls.{withChosen, joinBy, heard, scanHeard, scanOver, continuing, changed, after, receptionOver, afterLeave, transmissionOver, Call, scan, transmission, reception, answer}
 use Rattle.node.specs.declared.State.{State}
 use Rattle.node.specs.declared.ReceptionOutcome.the-variants.{Received}
 use Rattle.rejoin_bound.specs.Bound.{BoundReached}
@@ -151,9 +150,9 @@ abbrev calls : List Call
 calls = unansweredTry ++ (heardBeacons ∷ times 16 unansweredTry)
 
 pub bound-reached : BoundReached
-unfolding startJoin startOrRefusal bad indexPastTable joinBy rejoinStarted invalid tryRemembered trying negotiationReset finish moved potentialCleared parentIn parentOf
-    transmissionOver sentIn requestSent pollOn answeredBy pollParent polling unanswered tryFailed scanOrEnd otherOrRefusal receptionOver receivedIn
-    receivedFor taught taughtBy onEntries handled leaveHandled leaveRequested acceptsLeave changed after afterLeave leaveAnnounced leftFor continuing
-    scanned scanListed scanFound rejoinHeard heard neighborsOf neighborBy entryOf present potentialParent chosen candidates eligible linkCost newest
-    newer flatMap tryNext tryCandidate nextIn nextIndex skipped taking adoptedNext adopted marked
+unfolding answer bad outcome joinBy rejoinStarted invalid tryRemembered trying negotiationReset finish moved potentialCleared parentIn parentOf
+    transmissionOver requestSent answeredBy pollOn tryFailed scanOrEnd receptionOver taught taughtBy onEntries handled leaveHandled leaveRequested
+    acceptsLeave changed after afterLeave leaveAnnounced leftFor continuing scanOver scanHeard heard neighborsOf neighborBy entryOf present
+    potentialParent withChosen candidates eligible linkCost newest newer flatMap tryNext tryCandidate nextIn nextIndex skipped taking adoptedNext
+    adopted marked
 bound-reached = (lost, request, calls, refl, refl)

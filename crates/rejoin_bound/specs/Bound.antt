@@ -5,32 +5,32 @@ use mathlib.Core.Path.{_≡_}
 use mathlib.Core.Bool.{Bool, true, false, cond, not, _&&_}
 use mathlib.Core.List.{List, [], _∷_}
 use Rattle.management.specs.declared.NlmeJoinRequest.{NlmeJoinRequest}
-use Rattle.operation.specs.Operation.{isRefused}
 use Rattle.operation.specs.declared.Purpose.{Purpose}
-use Rattle.operation.specs.declared.Purpose.the-variants.{RejoinResponse, SinglePoll, SingleReceive, TimeoutResponse}
+use Rattle.operation.specs.declared.ScanFor.{ScanFor}
+use Rattle.operation.specs.declared.TransmissionFor.{TransmissionFor}
 use Rattle.operation.specs.declared.Phase.{Phase}
-use Rattle.operation.specs.declared.Phase.the-variants as phase
-use Rattle.node.specs.Runs.{NoneUnderWay, Call, discovery, join, send, poll, receive, timeout, scan, association, transmission, reception, elapsed, takeLeave, takeStatus, answer}
+use Rattle.operation.specs.declared.Step.{Step}
+use Rattle.node.specs.Calls.{Call, discovery, join, send, poll, receive, timeout, scan, association, transmission, reception, elapsed, takeLeave, takeStatus, answer}
 use Rattle.node.specs.declared.State.{State}
 use Rattle.node.specs.declared.Answer.{Answer}
 
 -- a rejoin is under way: it awaits its scan, the send of a request, a poll, or the announcement of a leave that a poll brought
 abbrev pub forRejoin : Purpose → Bool
-forRejoin RejoinResponse = true
-forRejoin SinglePoll = false
-forRejoin SingleReceive = false
-forRejoin (TimeoutResponse keepalive) = false
+forRejoin Purpose.RejoinResponse = true
+forRejoin Purpose.SinglePoll = false
+forRejoin Purpose.SingleReceive = false
+forRejoin (Purpose.TimeoutResponse u) = false
 
 abbrev pub inRejoin : Phase → Bool
-inRejoin phase.Idle = false
-inRejoin phase.Discovery = false
-inRejoin phase.RejoinScan = true
-inRejoin phase.Association = false
-inRejoin phase.RejoinSend = true
-inRejoin phase.DataSend = false
-inRejoin (phase.TimeoutSend keepalive) = false
-inRejoin (phase.LeaveSend p rejoin) = forRejoin p
-inRejoin (phase.Reception p) = forRejoin p
+inRejoin Phase.Idle = false
+inRejoin (Phase.Scan ScanFor.Discovery) = false
+inRejoin (Phase.Scan ScanFor.Rejoin) = true
+inRejoin Phase.Association = false
+inRejoin (Phase.Transmission TransmissionFor.RejoinRequest) = true
+inRejoin (Phase.Transmission TransmissionFor.Data) = false
+inRejoin (Phase.Transmission (TransmissionFor.TimeoutRequest u)) = false
+inRejoin (Phase.Transmission (TransmissionFor.Leave l)) = forRejoin (l .purpose)
+inRejoin (Phase.Reception u) = forRejoin u
 
 -- an accepted outcome: a call that reports what came of a request to the radio, and is not refused
 abbrev pub isOutcome : Call → Bool
@@ -39,7 +39,7 @@ isOutcome (join r) = false
 isOutcome (send destination secure) = false
 isOutcome poll = false
 isOutcome receive = false
-isOutcome (timeout keepalive) = false
+isOutcome (timeout u) = false
 isOutcome (scan o) = true
 isOutcome (association o) = true
 isOutcome (transmission ok) = true
@@ -47,6 +47,20 @@ isOutcome (reception o) = true
 isOutcome (elapsed ms) = false
 isOutcome takeLeave = false
 isOutcome takeStatus = false
+
+abbrev pub isRefused : Step → Bool
+isRefused (Step.Refused k) = true
+isRefused (Step.Ask r) = false
+isRefused Step.Discovered = false
+isRefused Step.DiscoveryFailed = false
+isRefused (Step.Joined x) = false
+isRefused (Step.Sent x) = false
+isRefused (Step.Polled x) = false
+isRefused (Step.NegotiationOver x) = false
+isRefused (Step.KeepaliveOver x) = false
+isRefused (Step.Expired x) = false
+isRefused (Step.LeaveTaken x) = false
+isRefused (Step.StatusTaken x) = false
 
 abbrev pub accepted : Call → Answer → Bool
 accepted c a = not (isRefused (a .step)) && isOutcome c
@@ -63,8 +77,10 @@ most = 17 * 41 + 1
 
 -- the claim: from any state with no operation under way, after any join request (after one that starts no rejoin nothing is counted), whatever is called
 abbrev pub RejoinBound : Type 0
-RejoinBound = (s : State) → NoneUnderWay s → (r : NlmeJoinRequest) → (cs : List Call) → outcomes (answer s (join r) .state) cs ≤ most
+RejoinBound =
+    (s : State) → s .control .operation .phase ≡ Phase.Idle → (r : NlmeJoinRequest) → (cs : List Call) → outcomes (answer s (join r) .state) cs ≤ most
 
 -- no smaller number would do: some rejoin uses as many
 abbrev pub BoundReached : Type 0
-BoundReached = (s : State) × (r : NlmeJoinRequest) × (cs : List Call) × NoneUnderWay s × (outcomes (answer s (join r) .state) cs ≡ most)
+BoundReached =
+    (s : State) × (r : NlmeJoinRequest) × (cs : List Call) × (s .control .operation .phase ≡ Phase.Idle) × (outcomes (answer s (join r) .state) cs ≡ most)

@@ -1,35 +1,39 @@
--- The polls that a step of a rejoin reports, beside those that it requests (01, "Join request and confirm" and "Code places and language
--- forms": "A try is one send and at most 20 polls").
-use Prim.Native.Nat.{ℕ}
+-- The polls that answers report, beside those that they request (01, "Code places and language forms": "polls used stand in the step's record and equal the poll
+-- requests in the definition").
+use Prim.Native.Nat.{ℕ, _+_}
 use mathlib.Core.Path.{_≡_}
-use Rattle.nib.specs.declared.NwkNeighbor.{NwkNeighbor}
-use Rattle.nib.specs.declared.Neighbor.{Neighbor}
-use Rattle.nib.specs.declared.Neighbor.the-variants.{Entry}
-use Rattle.operation.specs.declared.Control.{Control}
-use Rattle.operation.specs.declared.RadioRequest.the-variants.{Scan, Associate, Transmit, Poll, Receive}
+use mathlib.Core.List.{List, [], _∷_}
+use Rattle.operation.specs.declared.RadioRequest.{RadioRequest}
 use Rattle.operation.specs.declared.Step.{Step}
-use Rattle.operation.specs.declared.Step.the-variants.{Refused, Ask, Discovered, DiscoveryFailed, Joined, Sent, Polled, NegotiationOver, KeepaliveOver, Expired, LeaveTaken, StatusTaken}
-use Rattle.rejoin.specs.Rejoin.{pollOn}
+use Rattle.node.specs.Calls.{Call, answer}
+use Rattle.node.specs.declared.State.{State}
+use Rattle.node.specs.declared.Answer.{Answer}
 
 -- the poll requests of a step
 abbrev pub pollsAsked : Step → ℕ
-pollsAsked (Ask (Poll network address)) = 1
-pollsAsked (Ask (Scan r)) = 0
-pollsAsked (Ask (Associate r)) = 0
-pollsAsked (Ask (Transmit t)) = 0
-pollsAsked (Ask Receive) = 0
-pollsAsked (Refused k) = 0
-pollsAsked Discovered = 0
-pollsAsked DiscoveryFailed = 0
-pollsAsked (Joined x) = 0
-pollsAsked (Sent x) = 0
-pollsAsked (Polled x) = 0
-pollsAsked (NegotiationOver x) = 0
-pollsAsked (KeepaliveOver x) = 0
-pollsAsked (Expired x) = 0
-pollsAsked (LeaveTaken x) = 0
-pollsAsked (StatusTaken x) = 0
+pollsAsked (Step.Ask (RadioRequest.Poll network address)) = 1
+pollsAsked (Step.Ask (RadioRequest.Scan r)) = 0
+pollsAsked (Step.Ask (RadioRequest.Associate r)) = 0
+pollsAsked (Step.Ask (RadioRequest.Transmit t)) = 0
+pollsAsked (Step.Ask RadioRequest.Receive) = 0
+pollsAsked (Step.Refused k) = 0
+pollsAsked Step.Discovered = 0
+pollsAsked Step.DiscoveryFailed = 0
+pollsAsked (Step.Joined x) = 0
+pollsAsked (Step.Sent x) = 0
+pollsAsked (Step.Polled x) = 0
+pollsAsked (Step.NegotiationOver x) = 0
+pollsAsked (Step.KeepaliveOver x) = 0
+pollsAsked (Step.Expired x) = 0
+pollsAsked (Step.LeaveTaken x) = 0
+pollsAsked (Step.StatusTaken x) = 0
 
--- while there is a parent, the polls that the step after a send or a poll reports are those that it requests
-abbrev pub PollsEqual : Type 0
-PollsEqual = (parent : NwkNeighbor) (next : Neighbor) (c : Control) → pollOn (Entry parent) next c .«polls_used» ≡ pollsAsked (pollOn (Entry parent) next c .step)
+-- the sum of a number over the answers to a list of calls
+abbrev pub total : (Answer → ℕ) → State → List Call → ℕ
+total f s [] = 0
+total f s (c ∷ cs) = f (answer s c) + total f (answer s c .state) cs
+
+-- the claim, of any call and of any list of calls on any state
+pub record PollsEqual : Type 0 where
+  pub by-call : (s : State) (c : Call) → answer s c .«polls_used» ≡ pollsAsked (answer s c .step)
+  pub by-list : (s : State) (cs : List Call) → total (λ a. a .«polls_used») s cs ≡ total (λ a. pollsAsked (a .step)) s cs

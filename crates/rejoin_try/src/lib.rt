@@ -1,10 +1,7 @@
 // What follows the send and the polls of a try.
 ghost use mathlib.Core.Path.{_≡_};
-ghost use mathlib.Core.Bool.{cond};
-ghost use lib.Dec.{eqb};
-ghost use Rattle.operation.specs.Operation.{withNlme, inPhase};
-ghost use Rattle.operation.specs.declared.Phase.the-variants.{Idle};
-ghost use Rattle.rejoin.specs.Rejoin.{noResponse, tryFailed, remembering, rejoined, responded, unanswered, pollParent, pollOn, requestSent};
+ghost use Rattle.operation.specs.Operation.{withNlme, withPollsLeft, inPhase, pollOn};
+ghost use Rattle.rejoin.specs.Rejoin.{noResponse, tryFailed, remembering, rejoined, responded, tryGoesOn, requestSent};
 use management::NlmeJoinConfirm;
 use management::NlmeJoinStatus;
 use management::RejoinResponse;
@@ -29,7 +26,7 @@ fn try_failed(status: NlmeJoinStatus, next: Neighbor, control: Control) -> Decis
 
 // The control part of a rejoin that has succeeded: the network is remembered, where it has an id.
 fn settled(mut control: Control) -> Control
-    ensures { λ r. ⌜ r ≡ inPhase Idle (withNlme (remembering (control .operation .«extended_pan_id») (control .nlme)) control) ⌝ }
+    ensures { λ r. ⌜ r ≡ inPhase Phase.Idle (withNlme (remembering (control .operation .«extended_pan_id») (control .nlme)) control) ⌝ }
 {
     let network = control.operation.extended_pan_id;
     control = operation::in_phase(control, Phase::Idle);
@@ -67,29 +64,29 @@ fn responded(response: RejoinResponse, next: Neighbor, control: Control) -> Deci
     if response.status == 0 {
         return rejoined(response, control);
     }
-    try_failed(join::join_status(response.status), next, control)
+    try_failed(join::failed_status(response.status), next, control)
 }
 
-// All polls are used up.
-fn unanswered(next: Neighbor, mut control: Control) -> Decision
-    ensures { λ r. ⌜ r ≡ unanswered next control ⌝ }
+// No response came in the polls, or there is no parent to poll for those left.
+fn unanswered(next: Neighbor, control: Control) -> Decision
+    ensures { λ r. ⌜ r ≡ tryFailed NlmeJoinStatus.MacError next (withPollsLeft 0 control) ⌝ }
 {
-    let left = control.operation.polls_left;
-    control.operation.polls_left = 0;
-    let failed = try_failed(NlmeJoinStatus::MacError, next, control);
-    operation::after_polls(left, failed)
+    let none_left = operation::with_polls(control, 0);
+    try_failed(NlmeJoinStatus::MacError, next, none_left)
 }
 
-// No response has come: the parent is polled, or all polls are used up.
+// Without a response the polls go on while any is left.
 fn poll_again(parent: Neighbor, next: Neighbor, control: Control) -> Decision
-    ensures { λ r. ⌜ r ≡ cond (eqb (control .operation .«polls_left») 0) (unanswered next control) (pollParent parent next control) ⌝ }
+    ensures { λ r. ⌜ r ≡ pollOn Purpose.RejoinResponse parent (tryFailed NlmeJoinStatus.MacError next) control ⌝ }
 {
-    if control.operation.polls_left == 0 {
-        return unanswered(next, control);
-    }
     match parent {
         Neighbor::Absent => return unanswered(next, control),
-        Neighbor::Entry(e) => return operation::poll_counted(Purpose::RejoinResponse, e, control),
+        Neighbor::Entry(e) => {
+            if control.operation.polls_left == 0 {
+                return unanswered(next, control);
+            }
+            return operation::poll_counted(Purpose::RejoinResponse, e, control);
+        }
     }
 }
 
@@ -101,9 +98,9 @@ fn response_taken(control: Control) -> Control
     operation::with_nlme(control, emptied)
 }
 
-// Within a try: its response ends it, or the parent is polled, or the polls are used up.
-pub fn poll_on(parent: Neighbor, next: Neighbor, mut control: Control) -> Decision
-    ensures { λ r. ⌜ r ≡ pollOn parent next control ⌝ }
+// Within a try: its response ends it, or the polls go on.
+pub fn try_goes_on(parent: Neighbor, next: Neighbor, mut control: Control) -> Decision
+    ensures { λ r. ⌜ r ≡ tryGoesOn parent next control ⌝ }
 {
     let signals = control.nlme.signals;
     let slot = signals.rejoin_response;
@@ -121,7 +118,7 @@ pub fn request_sent(sent: bool, parent: Neighbor, next: Neighbor, control: Contr
     ensures { λ r. ⌜ r ≡ requestSent sent parent next control ⌝ }
 {
     if sent {
-        return poll_on(parent, next, control);
+        return try_goes_on(parent, next, control);
     }
     try_failed(NlmeJoinStatus::MacError, next, control)
 }

@@ -1,9 +1,9 @@
 -- The pairs of short address and failure count (01, "Supervision record"; Zigbee 3.6.3.7).
 use Prim.Native.Nat.{ℕ, _+_, min}
-use mathlib.Core.Bool.{Bool, true, false, cond}
+use mathlib.Core.Bool.{Bool, cond}
 use mathlib.Core.List.{List, [], _∷_, _++_}
 use lib.Dec.{eqb, ltb, leb}
-use lib.ListN.{length, take, drop, getD, set, replicate}
+use lib.ListN.{length, take, drop, getD, replicate}
 use Rattle.lists.specs.Lists.{over, firstIndex, some, changeFirst, removeFirst}
 use Rattle.nib.specs.declared.ShortAddress.{ShortAddress}
 use Rattle.supervision.specs.declared.TransmitFailure.{TransmitFailure}
@@ -66,11 +66,3 @@ transmitFailed f a =
       failures = cond (leb 3 (r .total)) (pairRemoved (r .failures) a) (r .failures);
       «link_failed» = leb 3 (r .total);
     }
-
--- one pair more behind those in use, where there are fewer than 16
-abbrev pub pairPushed : TransmitFailures → TransmitFailure → TransmitFailures
-pairPushed f p = record { pairs = set (f .pairs) (f .count) p; count = f .count + 1 }
-
--- the pair at a place counts one failure more; no public promise uses it
-abbrev pub countedAt : List TransmitFailure → ℕ → Recorded
-countedAt l k = record { failures = failuresOf (set l k (countedOnce (getD l k blankPair))); total = oneMore (getD l k blankPair .count) }

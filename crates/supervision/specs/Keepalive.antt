@@ -4,9 +4,7 @@ use mathlib.Core.Bool.{cond}
 use Rattle.nib.specs.Identifiers.{bit}
 use Rattle.supervision.specs.Timeouts.{timeoutSeconds, mapPeriod, negotiatedTimeoutMs}
 use Rattle.supervision.specs.declared.OptionalPeriod.{OptionalPeriod}
-use Rattle.supervision.specs.declared.OptionalPeriod.the-variants.{NoPeriod, Period}
 use Rattle.supervision.specs.declared.KeepaliveMethod.{KeepaliveMethod}
-use Rattle.supervision.specs.declared.KeepaliveMethod.the-variants.{MacDataPoll, TimeoutRequest, NoKeepalive}
 
 -- the interval between keepalives in milliseconds: a third of the timeout, rounded down
 unfoldable pub keepaliveIntervalMs : ℕ → OptionalPeriod
@@ -14,12 +12,12 @@ keepaliveIntervalMs timeout = mapPeriod (λ ms. ms / 3) (negotiatedTimeoutMs tim
 
 -- the method that the parent information names: bit 0 comes before bit 1
 unfoldable pub offered : ℕ → KeepaliveMethod
-offered information = cond (bit 0 information) MacDataPoll (cond (bit 1 information) TimeoutRequest NoKeepalive)
+offered information = cond (bit 0 information) KeepaliveMethod.MacDataPoll (cond (bit 1 information) KeepaliveMethod.TimeoutRequest KeepaliveMethod.NoKeepalive)
 
 -- a method where there is a period
 abbrev pub methodFor : OptionalPeriod → KeepaliveMethod → KeepaliveMethod
-methodFor NoPeriod m = NoKeepalive
-methodFor (Period n) m = m
+methodFor OptionalPeriod.NoPeriod m = KeepaliveMethod.NoKeepalive
+methodFor (OptionalPeriod.Period n) m = m
 
 -- the keepalive method: none without a negotiated timeout
 unfoldable pub keepaliveMethod : ℕ → ℕ → KeepaliveMethod
@@ -27,9 +25,9 @@ keepaliveMethod timeout information = methodFor (timeoutSeconds timeout) (offere
 
 -- a period where the method is the MAC data poll
 abbrev pub periodFor : KeepaliveMethod → OptionalPeriod → OptionalPeriod
-periodFor MacDataPoll p = p
-periodFor TimeoutRequest p = NoPeriod
-periodFor NoKeepalive p = NoPeriod
+periodFor KeepaliveMethod.MacDataPoll p = p
+periodFor KeepaliveMethod.TimeoutRequest p = OptionalPeriod.NoPeriod
+periodFor KeepaliveMethod.NoKeepalive p = OptionalPeriod.NoPeriod
 
 -- the interval between polls in milliseconds, none where polls are not the keepalive
 unfoldable pub negotiatedPollIntervalMs : ℕ → ℕ → OptionalPeriod

@@ -4,21 +4,20 @@ use mathlib.Core.Bool.{cond}
 use lib.Dec.{leb, eqb}
 use Rattle.parent_timer.specs.declared.ParentTimer.{ParentTimer}
 use Rattle.supervision.specs.declared.OptionalPeriod.{OptionalPeriod}
-use Rattle.supervision.specs.declared.OptionalPeriod.the-variants.{NoPeriod, Period}
 
 -- the timeout of an index in seconds (Zigbee Table 3.52): 10, then 2 minutes that double with each index up to 14; none above
 unfoldable pub timeoutSeconds : ℕ → OptionalPeriod
-timeoutSeconds i = cond (leb i 14) (Period (cond (eqb i 0) 10 (120 * 2 ^ (i - 1)))) NoPeriod
+timeoutSeconds i = cond (leb i 14) (OptionalPeriod.Period (cond (eqb i 0) 10 (120 * 2 ^ (i - 1)))) OptionalPeriod.NoPeriod
 
 -- a period changed by a function, or none
 abbrev pub mapPeriod : (ℕ → ℕ) → OptionalPeriod → OptionalPeriod
-mapPeriod f NoPeriod = NoPeriod
-mapPeriod f (Period n) = Period (f n)
+mapPeriod f OptionalPeriod.NoPeriod = OptionalPeriod.NoPeriod
+mapPeriod f (OptionalPeriod.Period n) = OptionalPeriod.Period (f n)
 
 -- a period's number, 0 where there is none
 abbrev pub numberOf : OptionalPeriod → ℕ
-numberOf NoPeriod = 0
-numberOf (Period n) = n
+numberOf OptionalPeriod.NoPeriod = 0
+numberOf (OptionalPeriod.Period n) = n
 
 -- the negotiated timeout in milliseconds
 unfoldable pub negotiatedTimeoutMs : ℕ → OptionalPeriod

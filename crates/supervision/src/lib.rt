@@ -1,11 +1,11 @@
 // Parent supervision: the negotiated timeout, keepalives, and the count of failed sends.
 ghost use mathlib.Core.Path.{_≡_};
-ghost use Prim.Native.Nat.{_<_};
-ghost use lib.ListN.{length};
-ghost use Rattle.lists.specs.Lists.{firstIndex, removeAt};
+ghost use Prim.Native.Nat.{_+_, _<_};
+ghost use lib.ListN.{length, getD, set};
+ghost use Rattle.lists.specs.Lists.{firstIndex, changeAt, removeAt};
 ghost use Rattle.supervision.specs.Timeouts.{timeoutSeconds, negotiatedTimeoutMs, refreshed};
 ghost use Rattle.supervision.specs.Keepalive.{keepaliveIntervalMs, offered, keepaliveMethod, negotiatedPollIntervalMs};
-ghost use Rattle.supervision.specs.Failures.{pairsOf, failuresOf, ofAddress, oneMore, withRoom, pairPushed, countedAt, recorded, pairRemoved, transmitFailed};
+ghost use Rattle.supervision.specs.Failures.{pairsOf, failuresOf, blankPair, ofAddress, oneMore, countedOnce, withRoom, recorded, pairRemoved, transmitFailed};
 use nib::ShortAddress;
 use parent_timer::ParentTimer;
 
@@ -163,7 +163,7 @@ fn find(failures: TransmitFailures, neighbor: ShortAddress) -> u8
 // One pair more behind those in use.
 fn push(failures: TransmitFailures, p: TransmitFailure) -> TransmitFailures
     requires { ⌜ failures .count < 16 ⌝ }
-    ensures { λ r. ⌜ r ≡ pairPushed failures p ⌝ }
+    ensures { λ r. ⌜ r ≡ record { pairs = set (failures .pairs) (failures .count) p; count = failures .count + 1 } ⌝ }
 {
     let count = failures.count;
     let mut out = failures;
@@ -205,7 +205,7 @@ fn one_more(n: u8) -> u8
 // The pair at a place counts one failure more.
 fn count_at(failures: TransmitFailures, place: u8) -> Recorded
     requires { ⌜ place < length (pairsOf failures) ⌝ }
-    ensures { λ r. ⌜ r ≡ countedAt (pairsOf failures) place ⌝ }
+    ensures { λ r. ⌜ r ≡ record { failures = failuresOf (changeAt place countedOnce (pairsOf failures)); total = oneMore (getD (pairsOf failures) place blankPair .count) } ⌝ }
 {
     let at = place as usize;
     let mut p = failures.pairs[at];

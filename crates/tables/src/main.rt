@@ -31,10 +31,11 @@ fn period(p: OptionalPeriod) {
 }
 
 fn association(status: u8) {
-    match join::join_status(status) {
-        NlmeJoinStatus::Success => {
-            io::write_all(STDOUT_FILENO, b"\tSuccess");
-        }
+    if status == 0 {
+        io::write_all(STDOUT_FILENO, b"\tSuccess");
+        return;
+    }
+    match join::failed_status(status) {
         NlmeJoinStatus::PanAtCapacity => {
             io::write_all(STDOUT_FILENO, b"\tPanAtCapacity");
         }

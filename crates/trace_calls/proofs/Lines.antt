@@ -9,7 +9,8 @@ use types.Run.{OneOf, miss}
 use denote.Enum.Declared.{tagOf}
 use Rattle.lists.proofs.Conditions.{pick-true, pick-false}
 use Rattle.mlme.specs.declared.PanDescriptorList.{PanDescriptorList}
-use Rattle.node.specs.Calls.{scanned, takeStatusIndication}
+use Rattle.node.specs.Calls.{scanned}
+use Rattle.node.specs.Calls as node
 use Rattle.node.specs.declared.State.{State}
 use Rattle.trace_input.specs.declared.Call.{Call}
 use Rattle.trace_input.specs.declared.Call.the-variants.{Bad, Node, Entry, Failure, Discovery, Join, Send, Poll, Receive, Negotiate, Keepalive, Scan, Beacon, ScanFailed, Association, Transmission, Reception, Tick, TakeLeave, TakeStatus, Choose, PrintState}
@@ -112,7 +113,7 @@ heard-other TakeStatus l n h = refl
 heard-other (Choose x y z) l n h = refl
 heard-other PrintState l n h = refl
 
-pub answer-other : (c : Call) (st : State) → OneOf unasked (tagOf the-type c) → takeStatusIndication st ≡ answer c st
+pub answer-other : (c : Call) (st : State) → OneOf unasked (tagOf the-type c) → node.answer st node.takeStatus ≡ answer c st
 unfolding answer
 answer-other Bad st h = refl
 answer-other (Node x) st h = refl

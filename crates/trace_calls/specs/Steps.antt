@@ -3,8 +3,9 @@ use Prim.Native.Nat.{ℕ, _-_}
 use mathlib.Core.Bool.{true, false}
 use Rattle.nib.specs.Neighbors.{pushed}
 use Rattle.mlme.specs.declared.PanDescriptorList.{PanDescriptorList}
+use Rattle.operation.specs.declared.TimeoutFor.{TimeoutFor}
 use Rattle.node.specs.Looks.{withTable}
-use Rattle.node.specs.Calls.{startDiscovery, startJoin, startSend, startPoll, startReceive, startTimeout, associationOver, transmissionOver, receptionOver, tick, takeLeaveIndication, takeStatusIndication}
+use Rattle.node.specs.Calls as node
 use Rattle.node.specs.declared.State.{State}
 use Rattle.node.specs.declared.Answer.{Answer}
 use Rattle.trace_input.specs.declared.Call.{Call}
@@ -68,28 +69,28 @@ heardOf l n PrintState = record { missing = 0; outcome = record { failed = true;
 
 -- what the node answers to a call; for any other line, what it answers to the taking of a status indication
 unfoldable pub answer : Call → State → Answer
-answer Bad st = takeStatusIndication st
-answer (Node x) st = takeStatusIndication st
-answer (Entry x) st = takeStatusIndication st
-answer (Failure x) st = takeStatusIndication st
-answer (Discovery x) st = startDiscovery x st
-answer (Join x) st = startJoin x st
-answer (Send x y) st = startSend x y st
-answer Poll st = startPoll st
-answer Receive st = startReceive st
-answer Negotiate st = startTimeout false st
-answer Keepalive st = startTimeout true st
-answer (Scan x) st = takeStatusIndication st
-answer (Beacon x) st = takeStatusIndication st
-answer ScanFailed st = takeStatusIndication st
-answer (Association x) st = associationOver x st
-answer (Transmission x) st = transmissionOver x st
-answer (Reception x) st = receptionOver x st
-answer (Tick x) st = tick x st
-answer TakeLeave st = takeLeaveIndication st
-answer TakeStatus st = takeStatusIndication st
-answer (Choose x y z) st = takeStatusIndication st
-answer PrintState st = takeStatusIndication st
+answer Bad st = node.answer st node.takeStatus
+answer (Node x) st = node.answer st node.takeStatus
+answer (Entry x) st = node.answer st node.takeStatus
+answer (Failure x) st = node.answer st node.takeStatus
+answer (Discovery x) st = node.answer st (node.discovery x)
+answer (Join x) st = node.answer st (node.join x)
+answer (Send x y) st = node.answer st (node.send x y)
+answer Poll st = node.answer st node.poll
+answer Receive st = node.answer st node.receive
+answer Negotiate st = node.answer st (node.timeout TimeoutFor.Negotiation)
+answer Keepalive st = node.answer st (node.timeout TimeoutFor.Keepalive)
+answer (Scan x) st = node.answer st node.takeStatus
+answer (Beacon x) st = node.answer st node.takeStatus
+answer ScanFailed st = node.answer st node.takeStatus
+answer (Association x) st = node.answer st (node.association x)
+answer (Transmission x) st = node.answer st (node.transmission x)
+answer (Reception x) st = node.answer st (node.reception x)
+answer (Tick x) st = node.answer st (node.elapsed x)
+answer TakeLeave st = node.answer st node.takeLeave
+answer TakeStatus st = node.answer st node.takeStatus
+answer (Choose x y z) st = node.answer st node.takeStatus
+answer PrintState st = node.answer st node.takeStatus
 
 -- a line that is none of the state and none of a scan
 unfoldable pub called : Call → Session → Turn

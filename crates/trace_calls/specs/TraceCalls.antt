@@ -1,5 +1,5 @@
 -- A trace's lines taken one by one (compare/FORMAT.md): which may come, what each leaves, and what it says of the node.
-use Prim.Native.Nat.{ℕ, _-_}
+use Prim.Native.Nat.{ℕ, _+_, _-_}
 use mathlib.Core.Bool.{Bool, true, false, cond}
 use mathlib.Core.List.{[]}
 use lib.Dec.{eqb, ltb}
@@ -13,7 +13,6 @@ use Rattle.discovery.specs.declared.NlmeNetworkDiscoveryConfirm.{NlmeNetworkDis
 use Rattle.candidates.specs.Candidates.{listOf}
 use Rattle.candidates.specs.declared.CandidateList.{CandidateList}
 use Rattle.supervision.specs.Failures.{failuresOf}
-use Rattle.supervision.specs.Failures as failures
 use Rattle.supervision.specs.declared.TransmitFailure.{TransmitFailure}
 use Rattle.supervision.specs.declared.TransmitFailures.{TransmitFailures}
 use Rattle.management.specs.declared.Signals.{Signals}
@@ -26,7 +25,9 @@ use Rattle.nlme.specs.declared.Nlme.{Nlme}
 use Rattle.operation.specs.declared.Operation.{Operation}
 use Rattle.operation.specs.declared.Phase.the-variants.{Idle}
 use Rattle.node.specs.Looks.{withTable}
-use Rattle.node.specs.Calls.{withNode, startDiscovery, startJoin, startSend, startPoll, startReceive, startTimeout, scanned, associationOver, transmissionOver, receptionOver, tick, takeLeaveIndication, takeStatusIndication, choose}
+use Rattle.operation.specs.declared.TimeoutFor.{TimeoutFor}
+use Rattle.node.specs.Calls.{withNode, scanned, choose}
+use Rattle.node.specs.Calls as node
 use Rattle.node.specs.declared.State.{State}
 use Rattle.node.specs.declared.Answer.{Answer}
 use Rattle.node.specs.declared.ScanAnswer.{ScanAnswer}
@@ -190,7 +191,7 @@ abbrev pub withPairs : TransmitFailures → State → State
 withPairs f st = withNode (withFailures f (st .control .nlme)) st
 
 unfoldable pub withPair : TransmitFailure → TransmitFailures → TransmitFailures
-withPair p f = cond (ltb (f .count) 16) (failures.pairPushed f p) f
+withPair p f = cond (ltb (f .count) 16) (record { pairs = set (f .pairs) (f .count) p; count = f .count + 1 }) f
 
 -- the choice of candidates on the present table
 abbrev pub choiceTold : Choice → Session → Turn
@@ -208,22 +209,22 @@ made Bad s = bad s
 made (Node l) s = nothing (setUp (begun l) s)
 made (Entry e) s = nothing (setUp (withTable (pushed (s .state .table) e) (s .state)) s)
 made (Failure p) s = nothing (setUp (withPairs (withPair p (pairs (s .state))) (s .state)) s)
-made (Discovery r) s = told (startDiscovery r (s .state)) (s .scan)
-made (Join r) s = told (startJoin r (s .state)) (s .scan)
-made (Send destination secure) s = told (startSend destination secure (s .state)) (s .scan)
-made Poll s = told (startPoll (s .state)) (s .scan)
-made Receive s = told (startReceive (s .state)) (s .scan)
-made Negotiate s = told (startTimeout false (s .state)) (s .scan)
-made Keepalive s = told (startTimeout true (s .state)) (s .scan)
+made (Discovery r) s = told (node.answer (s .state) (node.discovery r)) (s .scan)
+made (Join r) s = told (node.answer (s .state) (node.join r)) (s .scan)
+made (Send destination secure) s = told (node.answer (s .state) (node.send destination secure)) (s .scan)
+made Poll s = told (node.answer (s .state) node.poll) (s .scan)
+made Receive s = told (node.answer (s .state) node.receive) (s .scan)
+made Negotiate s = told (node.answer (s .state) (node.timeout TimeoutFor.Negotiation)) (s .scan)
+made Keepalive s = told (node.answer (s .state) (node.timeout TimeoutFor.Keepalive)) (s .scan)
 made (Scan n) s = scanAfter n (hearing (unheard n)) s
 made (Beacon d) s = scanAfter (s .missing - 1) (hearing (withBeacon (s .missing) d (s .scan))) s
 made ScanFailed s = scanAfter 0 (record { failed = true; list = unheard 0 }) s
-made (Association o) s = told (associationOver o (s .state)) (s .scan)
-made (Transmission ok) s = told (transmissionOver ok (s .state)) (s .scan)
-made (Reception o) s = told (receptionOver o (s .state)) (s .scan)
-made (Tick ms) s = told (tick ms (s .state)) (s .scan)
-made TakeLeave s = told (takeLeaveIndication (s .state)) (s .scan)
-made TakeStatus s = told (takeStatusIndication (s .state)) (s .scan)
+made (Association o) s = told (node.answer (s .state) (node.association o)) (s .scan)
+made (Transmission ok) s = told (node.answer (s .state) (node.transmission ok)) (s .scan)
+made (Reception o) s = told (node.answer (s .state) (node.reception o)) (s .scan)
+made (Tick ms) s = told (node.answer (s .state) (node.elapsed ms)) (s .scan)
+made TakeLeave s = told (node.answer (s .state) node.takeLeave) (s .scan)
+made TakeStatus s = told (node.answer (s .state) node.takeStatus) (s .scan)
 made (Choose n router permit) s = chosen (n .0) router permit s
 made PrintState s = shown s
 

@@ -1,19 +1,24 @@
-// The candidates of an operation: which one is being tried, which comes next, and what a try writes to the neighbour table.
+// The candidates of an operation: which are chosen, which one is being tried, which comes next, and what a try writes to the neighbour table.
 ghost use mathlib.Core.Path.{_≡_};
+ghost use mathlib.Core.Bool.{cond, not};
 ghost use Prim.Native.Nat.{_+_};
+ghost use lib.Dec.{ltb};
 ghost use lib.ListN.{length, drop, getD};
 ghost use Rattle.lists.specs.Lists.{firstIndex};
 ghost use Rattle.nib.specs.Neighbors.{entriesOf};
 ghost use Rattle.neighbor_table.specs.NeighborTable.{onEntries};
 ghost use Rattle.candidates.specs.Candidates.{itemsOf};
-ghost use Rattle.tries.specs.Tries.{parentIn, triedIndex, triedIn, nextIndex, nextIn, pastTable, taking, adoptedNext, joinedTried, potentialClearedTried, within};
+ghost use Rattle.tries.specs.Tries.{chosenFrom, parentIn, triedIndex, triedIn, nextIndex, nextIn, pastTable, taking, adoptedNext, joinedTried, potentialClearedTried};
 use candidates::CandidateList;
+use candidates::select_candidates;
 use neighbor_table::adopt_parent;
 use neighbor_table::clear_beacon_fields;
 use neighbor_table::clear_potential_parent;
 use neighbor_table::mark_parent;
 use neighbor_table::parent;
 use neighbor_table::seen;
+use nib::CapabilityInformation;
+use nib::ExtendedPanId;
 use nib::Neighbor;
 use nib::NeighborTable;
 
@@ -21,6 +26,26 @@ use nib::NeighborTable;
 pub struct Candidates {
     pub list: CandidateList,
     pub taken: u8,
+}
+
+// The candidates for a parent in a table, none of them taken.
+pub fn chosen(
+    table: NeighborTable,
+    stack_profile: u8,
+    require_permit_joining: bool,
+    extended_pan_id: ExtendedPanId,
+    capability_information: CapabilityInformation,
+) -> Candidates
+    ensures { λ r. ⌜ r ≡ chosenFrom (entriesOf table) «stack_profile» «require_permit_joining» («extended_pan_id» .0) «capability_information» ⌝ }
+{
+    let list = select_candidates(
+        table,
+        stack_profile,
+        extended_pan_id,
+        capability_information.device_type(),
+        require_permit_joining,
+    );
+    Candidates { list, taken: 0 }
 }
 
 // How many indexes a list has: 16 where its count says more.
@@ -34,13 +59,13 @@ fn in_use(list: CandidateList) -> u8
     16
 }
 
-// The index at a place of a list, 255 past its end.
-fn index_at(list: CandidateList, place: u8) -> u8
-    ensures { λ r. ⌜ r ≡ getD (itemsOf list) place 255 ⌝ }
+// The index at a place of a list, `none` past its end.
+fn index_at(list: CandidateList, place: u8, none: u8) -> u8
+    ensures { λ r. ⌜ r ≡ getD (itemsOf list) place none ⌝ }
 {
     let count = in_use(list);
     if count <= place {
-        return 255;
+        return none;
     }
     let at = place as usize;
     list.indexes[at]
@@ -48,7 +73,7 @@ fn index_at(list: CandidateList, place: u8) -> u8
 
 // The place of the first index from a place on that is below a limit, or of the first that is not.
 fn first_from(list: CandidateList, from: u8, limit: u8, below: bool) -> u8
-    ensures { λ r. ⌜ r ≡ from + firstIndex (within below limit) (drop from (itemsOf list)) ⌝ }
+    ensures { λ r. ⌜ r ≡ from + firstIndex (λ i. cond below (ltb i limit) (not (ltb i limit))) (drop from (itemsOf list)) ⌝ }
 {
     let count = in_use(list);
     let mut place = from;
@@ -63,22 +88,23 @@ fn first_from(list: CandidateList, from: u8, limit: u8, below: bool) -> u8
     place
 }
 
-fn tried_index(candidates: Candidates) -> u8
-    ensures { λ r. ⌜ r ≡ triedIndex candidates ⌝ }
+// The index being tried in a table of `count` entries, `count` where there is none.
+fn tried_index(count: u8, candidates: Candidates) -> u8
+    ensures { λ r. ⌜ r ≡ triedIndex count candidates ⌝ }
 {
     let taken = candidates.taken;
     if taken == 0 {
-        return 255;
+        return count;
     }
-    index_at(candidates.list, taken - 1)
+    index_at(candidates.list, taken - 1, count)
 }
 
-// The next index to be tried in a table of `count` entries: those not below it are skipped.
+// The next index to be tried in a table of `count` entries, `count` where there is none: those not below it are skipped.
 fn next_index(count: u8, candidates: Candidates) -> u8
     ensures { λ r. ⌜ r ≡ nextIndex count candidates ⌝ }
 {
     let place = first_from(candidates.list, candidates.taken, count, true);
-    index_at(candidates.list, place)
+    index_at(candidates.list, place, count)
 }
 
 // The parent, as commands are addressed to it.
@@ -92,7 +118,8 @@ pub fn parent_seen(table: NeighborTable) -> Neighbor
 pub fn tried(table: NeighborTable, candidates: Candidates) -> Neighbor
     ensures { λ r. ⌜ r ≡ triedIn (entriesOf table) candidates ⌝ }
 {
-    let tried = tried_index(candidates);
+    let count = table.len();
+    let tried = tried_index(count, candidates);
     seen(table, table.get(tried))
 }
 
@@ -118,14 +145,15 @@ pub fn past_table(count: u8, candidates: Candidates) -> bool
     first_from(list, taken - 1, count, false) < length
 }
 
-// The next candidate is taken.
+// The next candidate is taken, or all are where none is left.
 pub fn take_next(table: NeighborTable, candidates: Candidates) -> Candidates
     ensures { λ r. ⌜ r ≡ taking (length (entriesOf table)) candidates ⌝ }
 {
+    let length = in_use(candidates.list);
     let next = first_from(candidates.list, candidates.taken, table.len(), true);
     let mut out = candidates;
-    if next == 255 {
-        out.taken = 255;
+    if length <= next {
+        out.taken = length;
         return out;
     }
     out.taken = next + 1;
@@ -145,7 +173,8 @@ pub fn adopt_next(table: NeighborTable, candidates: Candidates) -> NeighborTable
 pub fn join_tried(table: NeighborTable, candidates: Candidates) -> NeighborTable
     ensures { λ r. ⌜ r ≡ onEntries (joinedTried candidates) table ⌝ }
 {
-    let index = tried_index(candidates);
+    let count = table.len();
+    let index = tried_index(count, candidates);
     let marked = mark_parent(table, index);
     clear_beacon_fields(marked)
 }
@@ -154,6 +183,7 @@ pub fn join_tried(table: NeighborTable, candidates: Candidates) -> NeighborTable
 pub fn clear_tried(table: NeighborTable, candidates: Candidates) -> NeighborTable
     ensures { λ r. ⌜ r ≡ onEntries (potentialClearedTried candidates) table ⌝ }
 {
-    let index = tried_index(candidates);
+    let count = table.len();
+    let index = tried_index(count, candidates);
     clear_potential_parent(table, index)
 }

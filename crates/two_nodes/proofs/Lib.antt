@@ -2,7 +2,7 @@
 pub mod Sight
 pub mod States
 pub mod Decisions
-pub mod Calls
+pub mod Frames
 pub mod Agreement
 pub mod TwoNodes
 pub mod Examples

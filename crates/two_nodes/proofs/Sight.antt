@@ -21,7 +21,7 @@ use Rattle.nib.specs.declared.IeeeAddress.{IeeeAddress}
 use Rattle.nib.specs.declared.NwkNeighbor.{NwkNeighbor}
 use Rattle.neighbor_table.specs.NeighborTable.{hasAddress, isParent, parentOf, seenIn, withIeee, withRelationship, cleared, learnt, marked, adopted, allCleared}
 use Rattle.neighbor_table.proofs.Looks.{parent-cons}
-use Rattle.neighbor_table.proofs.Addressed.{look, ieeeIn, seen, seen-long, entry-seen, parent-seen, Mild, mild-relationship, mild-cleared, seen-change, seen-map, taughtTo, seen-learnt, NoAddress, seen-fresh}
+use Rattle.neighbor_table.proofs.Addressed.{look, ieeeIn, seen, entry-seen, parent-seen, Mild, mild-relationship, mild-cleared, seen-change, seen-map, taughtTo, seen-learnt, NoAddress, seen-fresh}
 use Rattle.candidates.specs.UpdateIds.{ofNetwork, newest}
 use Rattle.candidates.specs.Candidates.{depthAt, ordered, candidates}
 use Rattle.candidates.specs.declared.Newest.{Newest}
@@ -83,42 +83,40 @@ pub parent-shows : (n : ℕ) (es : List NwkNeighbor) → parentIn es ≡ parentO
 unfolding shows parentIn
 parent-shows n es = parent-seen es ∙ sym (parent-visible n (seen es))
 
--- an index, and its place among the network's own entries: its rank, or 255 where there is no index (which is past every table)
-pub data Placed (ms : List Bool) (i r : ℕ) : Type 0 where
-  ranked : isMarked ms i ≡ true → r ≡ rank ms i → Placed ms i r
-  nowhere : i ≡ 255 → r ≡ 255 → Placed ms i r
-
-pub placed-at : (ms : List Bool) (l : List ℕ) → All (λ i. isMarked ms i ≡ true) l → (k : ℕ) → Placed ms (getD l k 255) (getD (map (rank ms) l) k 255)
-placed-at ms [] a k = nowhere refl refl
-placed-at ms (i ∷ l) a zero = ranked (a .0) refl
-placed-at ms (i ∷ l) a (suc k) = placed-at ms l (a .1) k
+-- an index, and its place among the network's own entries: its rank; or past all that is seen, where the index is past the table
+pub data Placed (n : ℕ) (es : List NwkNeighbor) (i r : ℕ) : Type 0 where
+  ranked : isMarked (marks n es) i ≡ true → r ≡ rank (marks n es) i → Placed n es i r
+  nowhere : length es ≤ i → length (shows n es) ≤ r → Placed n es i r
 
 module _ (n : ℕ) where
-  entry-placed : (l : List NwkNeighbor) (i r : ℕ) → length l ≤ 16 → Placed (marks n l) i r → entryAt l i ≡ entryAt (select (ofNetwork n) l) r
-  entry-placed l i r few (ranked t e) =
-      entry-anywhere l (select (ofNetwork n) l) i (rank (marks n l) i) (marked-below (ofNetwork n) l i t) (rank-below (ofNetwork n) l i t) (at-rank (ofNetwork n) l i blank t)
-      ∙ ap (entryAt (select (ofNetwork n) l)) (sym e)
-  entry-placed l i r few (nowhere a b) = rw (a, b, le-ltb 255 (length l) (omega arith), le-ltb 255 (length (select (ofNetwork n) l)) (omega (arith, select-long (ofNetwork n) l)))
+  pub placed-at : (es : List NwkNeighbor) (l : List ℕ) → All (λ i. isMarked (marks n es) i ≡ true) l → (k : ℕ)
+      → Placed n es (getD l k (length es)) (getD (map (rank (marks n es)) l) k (length (shows n es)))
+  placed-at es [] a k = nowhere (omega arith) (omega arith)
+  placed-at es (i ∷ l) a zero = ranked (a .0) refl
+  placed-at es (i ∷ l) a (suc k) = placed-at es l (a .1) k
 
-  pub entry-shows : (es : List NwkNeighbor) (i r : ℕ) → length es ≤ 16 → Placed (marks n es) i r → seenIn es (entryAt es i) ≡ entryAt (select (ofNetwork n) (shows n es)) r
+  pub entry-shows : (es : List NwkNeighbor) (i r : ℕ) → Placed n es i r → seenIn es (entryAt es i) ≡ entryAt (select (ofNetwork n) (shows n es)) r
   unfolding shows
-  entry-shows es i r few p =
+  entry-shows es i r (ranked t e) =
+      let u : isMarked (marks n (seen es)) i ≡ true = subst⁻¹ (λ (ms : List Bool). isMarked ms i ≡ true) (marks-seen n es) t in
+      let own = select (ofNetwork n) (seen es) in
       entry-seen es i
-      ∙ entry-placed (seen es) i r (omega (arith, seen-long es)) (subst⁻¹ (λ (ms : List Bool). Placed ms i r) (marks-seen n es) p)
-      ∙ ap (λ (l : List NwkNeighbor). entryAt l r) (sym (select-select (ofNetwork n) (visible n) (own-visible n) (seen es)))
+      ∙ entry-anywhere (seen es) own i (rank (marks n (seen es)) i) (marked-below (ofNetwork n) (seen es) i u) (rank-below (ofNetwork n) (seen es) i u) (at-rank (ofNetwork n) (seen es) i blank u)
+      ∙ ap₂ entryAt (sym (select-select (ofNetwork n) (visible n) (own-visible n) (seen es))) (ap (λ (ms : List Bool). rank ms i) (marks-seen n es) ∙ sym e)
+  entry-shows es i r (nowhere a b) =
+      rw (le-ltb i (length es) a, le-ltb r (length (select (ofNetwork n) (shows n es))) (omega (arith, b, select-long (ofNetwork n) (shows n es))))
 
 -- writes at an index
 
 module _ (n : ℕ) (f : NwkNeighbor → NwkNeighbor) (m : Mild f) (kept : (e : NwkNeighbor) → ofNetwork n (f e) ≡ ofNetwork n e) where
-  pub changed-shows : (es : List NwkNeighbor) (i r : ℕ) → length es ≤ 16 → Placed (marks n es) i r → shows n (changeAt i f es) ≡ changeRanked (ofNetwork n) f r (shows n es)
+  pub changed-shows : (es : List NwkNeighbor) (i r : ℕ) → Placed n es i r → shows n (changeAt i f es) ≡ changeRanked (ofNetwork n) f r (shows n es)
   unfolding shows
-  changed-shows es i r few (ranked t e) =
+  changed-shows es i r (ranked t e) =
       ap (select (visible n)) (seen-change f m i es)
       ∙ select-change (ofNetwork n) f kept (visible n) (own-visible n) (seen es) i (subst⁻¹ (λ (ms : List Bool). isMarked ms i ≡ true) (marks-seen n es) t)
       ∙ ap (λ (k : ℕ). changeRanked (ofNetwork n) f k (select (visible n) (seen es))) (ap (λ (ms : List Bool). rank ms i) (marks-seen n es) ∙ sym e)
-  changed-shows es i r few (nowhere a b) =
-      let h : length (select (visible n) (seen es)) ≤ r = omega (arith, select-long (visible n) (seen es), seen-long es) in
-      ap (λ (l : List NwkNeighbor). select (visible n) (seen l)) (change-past f i es (omega arith)) ∙ sym (ranked-past (ofNetwork n) f r (select (visible n) (seen es)) h)
+  changed-shows es i r (nowhere a b) =
+      ap (λ (l : List NwkNeighbor). select (visible n) (seen l)) (change-past f i es a) ∙ sym (ranked-past (ofNetwork n) f r (select (visible n) (seen es)) b)
 
 -- a rejoin makes the candidate PARENT and all others NONE: of the others only the network's own are still seen
 
@@ -137,21 +135,21 @@ module _ (n : ℕ) where
   none-marks : (es : List NwkNeighbor) → marks n (map (withRelationship NONE) es) ≡ marks n es
   none-marks es = marks-map (ofNetwork n) (withRelationship NONE) (λ e. refl) es
 
-  pub adopted-shows : (es : List NwkNeighbor) (i r : ℕ) → length es ≤ 16 → Placed (marks n es) i r → shows n (adopted i es) ≡ adoptedIn n r (shows n es)
+  pub adopted-shows : (es : List NwkNeighbor) (i r : ℕ) → Placed n es i r → shows n (adopted i es) ≡ adoptedIn n r (shows n es)
   unfolding adopted marked
-  adopted-shows es i r few (ranked t e) =
+  adopted-shows es i r (ranked t e) =
       let own = select (ofNetwork n) (shows n es) in
       let long : length own ≡ length (select (ofNetwork n) es) = ap length (own-shows n es) ∙ length-map (select (ofNetwork n) es) (look (ieeeIn es)) in
       let below : r < length own = omega (arith, long, e, rank-below (ofNetwork n) es i t) in
+      let none = map (withRelationship NONE) es in
+      let same = none-marks es in
       rw (lt-ltb i (length es) (marked-below (ofNetwork n) es i t), lt-ltb r (length own) below)
-      (changed-shows n (withRelationship PARENT) (mild-relationship PARENT) (λ x. refl) (map (withRelationship NONE) es) i r (omega (arith, length-map es (withRelationship NONE)))
-      (subst⁻¹ (λ (ms : List Bool). Placed ms i r) (none-marks es) (ranked t e))
+      (changed-shows n (withRelationship PARENT) (mild-relationship PARENT) (λ x. refl) none i r
+      (ranked (ap (λ (ms : List Bool). isMarked ms i) same ∙ t) (e ∙ sym (ap (λ (ms : List Bool). rank ms i) same)))
       ∙ ap (changeRanked (ofNetwork n) (withRelationship PARENT) r) (none-shows es))
-  adopted-shows es i r few (nowhere a b) =
+  adopted-shows es i r (nowhere a b) =
       let own = select (ofNetwork n) (shows n es) in
-      let long : length own ≡ length (select (ofNetwork n) es) = ap length (own-shows n es) ∙ length-map (select (ofNetwork n) es) (look (ieeeIn es)) in
-      let past : length own ≤ r = omega (arith, long, b, select-long (ofNetwork n) es) in
-      rw (le-ltb i (length es) (omega arith), le-ltb r (length own) past)
+      rw (le-ltb i (length es) a, le-ltb r (length own) (omega (arith, b, select-long (ofNetwork n) (shows n es))))
 
   pub adopted-marks : (i : ℕ) (es : List NwkNeighbor) → marks n (adopted i es) ≡ marks n es
   unfolding adopted marked
@@ -175,11 +173,11 @@ module _ (n : ℕ) (some : n ≡ 0 → ⊥) where
       ∙ select-map cleared isParent (visible n) (λ e. ap (λ (b : Bool). b || isParent e) (foreign e)) (seen es)
       ∙ ap (map cleared) (sym (select-select isParent (visible n) (λ e. or-right (ofNetwork n e) (isParent e)) (seen es)))
 
-  pub joined-shows : (es : List NwkNeighbor) (i r : ℕ) → length es ≤ 16 → Placed (marks n es) i r → shows n (allCleared (marked i es)) ≡ joinedIn n r (shows n es)
+  pub joined-shows : (es : List NwkNeighbor) (i r : ℕ) → Placed n es i r → shows n (allCleared (marked i es)) ≡ joinedIn n r (shows n es)
   unfolding allCleared marked
-  joined-shows es i r few p =
+  joined-shows es i r p =
       cleared-shows (changeAt i (withRelationship PARENT) es)
-      ∙ ap (λ (l : List NwkNeighbor). map cleared (select isParent l)) (changed-shows n (withRelationship PARENT) (mild-relationship PARENT) (λ e. refl) es i r few p)
+      ∙ ap (λ (l : List NwkNeighbor). map cleared (select isParent l)) (changed-shows n (withRelationship PARENT) (mild-relationship PARENT) (λ e. refl) es i r p)
 
   -- no entry is the network's any more
   pub joined-ranks : (es : List NwkNeighbor) (j : ℕ) → rank (marks n (allCleared es)) j ≡ 0

@@ -8,7 +8,7 @@ use native.Mathlib.Nat.{add-zero}
 use native.Mathlib.Omega.{arith}
 use borrow.Author.Tests.{lt-ltb, le-ltb}
 use lib.Dec.{eqb, ltb}
-use lib.ListN.{length, take, drop, getD, replicate, length-take}
+use lib.ListN.{length, drop, getD, replicate, length-map, length-take}
 use lib.Seq.{getD-drop}
 use Rattle.lists.specs.Lists.{select, firstIndex, some, All}
 use Rattle.lists.proofs.Lists.{over-take}
@@ -32,19 +32,20 @@ use Rattle.frame.specs.declared.ReceivedFrame.{ReceivedFrame}
 use Rattle.frame.specs.declared.ReceivedFrame.the-variants.{Undecodable, Data, RejoinResponseCommand, TimeoutResponseCommand, LeaveCommand, OtherCommand, OtherFrame}
 use Rattle.mlme.specs.declared.PanDescriptor.{PanDescriptor}
 use Rattle.discovery.specs.Discovery.{neighborsOf, shortAddressed, beaconOf}
-use Rattle.discovery.proofs.Scans.{neighbors-all}
+use Rattle.discovery.proofs.Scans.{neighbors-many}
 use Rattle.neighbor_table.proofs.Addressed.{mild-potential, taughtTo}
 use Rattle.candidates.specs.UpdateIds.{ofNetwork}
 use Rattle.candidates.specs.Candidates.{candidates, itemsOf, listOf}
 use Rattle.candidates.proofs.Laws.{few as few-candidates}
 use Rattle.tries.specs.Tries.{triedIndex, triedIn, skipped, nextIndex, nextIn, pastTable, taking, adoptedNext, joinedTried, potentialClearedTried}
-use Rattle.operation.specs.Operation.{awaitsAssociation}
+use Rattle.operation.specs.Operation.{associationFor}
+use Rattle.operation.specs.declared.Phase.{Phase}
 use Rattle.operation.specs.declared.Control.{Control}
 use Rattle.operation.specs.declared.Move.{Move}
 use Rattle.operation.specs.declared.Move.the-variants.{Stay, TakeNext, AdoptNext, JoinTried}
 use Rattle.node.specs.Looks.{withTable, entries, parent, tried, next, takenNext, moved, potentialCleared}
-use Rattle.node.specs.Refusals.{indexPastTable, bad}
-use Rattle.node.specs.Calls.{chosen, withChosen, heard, taughtOn}
+use Rattle.node.specs.Refusals.{pastIn, bad}
+use Rattle.node.specs.Calls.{withChosen, heard, taughtOn}
 use Rattle.received.specs.Received.{taughtBy, taught}
 use Rattle.node.specs.declared.State.{State}
 use Rattle.two_nodes.proofs.Sight.{shows, marks, Placed, nowhere, placed-at, parent-shows, entry-shows, changed-shows, adoptedIn, adopted-shows, adopted-marks, joinedIn, joined-shows, joined-ranks, learnt-shows, learnt-marks, scan-shows, choiceIn, choice-ours, choice-shows}
@@ -58,6 +59,17 @@ pub record Sight : Type 0 where
 abbrev pub sight : ℕ → State → Sight
 sight n s =
     record { list = shows n (entries s); places = map (rank (marks n (entries s))) (itemsOf (s .candidates .list)); taken = s .candidates .taken }
+
+-- candidates are being tried, or may be: those of an association, and of a rejoin after its scan
+abbrev pub liveIn : Phase → Bool → Bool
+liveIn Phase.Idle scanned = false
+liveIn (Phase.Scan u) scanned = false
+liveIn Phase.Association scanned = true
+liveIn (Phase.Transmission u) scanned = scanned
+liveIn (Phase.Reception u) scanned = scanned
+
+abbrev pub live : Control → Bool
+live c = liveIn (c .operation .phase) (c .operation .scanned)
 
 -- the counts are in range
 pub record Tidy (s : State) : Type 0 where
@@ -73,11 +85,12 @@ entries-few s d = omega (arith, d .small, length-take (s .table .count) (s .tabl
 
 -- LOOKS
 
+-- the place of the candidate being tried, and of the next one; past all that is seen where there is none
 abbrev triedPlace : Sight → ℕ
-triedPlace v = cond (eqb (v .taken) 0) 255 (getD (v .places) (v .taken - 1) 255)
+triedPlace v = cond (eqb (v .taken) 0) (length (v .list)) (getD (v .places) (v .taken - 1) (length (v .list)))
 
 abbrev nextPlace : Sight → ℕ
-nextPlace v = getD (v .places) (v .taken) 255
+nextPlace v = getD (v .places) (v .taken) (length (v .list))
 
 abbrev pub triedSeen : ℕ → Sight → Neighbor
 triedSeen n v = entryAt (select (ofNetwork n) (v .list)) (triedPlace v)
@@ -103,28 +116,28 @@ module _ (n : ℕ) (s : State) where
     unfolding skipped
     no-skip = none-skipped (length (entries s)) (s .candidates .taken) (itemsOf (s .candidates .list)) below
 
-    tried-placed : Placed (marks n (entries s)) (triedIndex (s .candidates)) (triedPlace (sight n s))
+    tried-placed : Placed n (entries s) (triedIndex (length (entries s)) (s .candidates)) (triedPlace (sight n s))
     unfolding triedIndex
     tried-placed =
-        split (eqb (s .candidates .taken) 0) (λ t. rw t (nowhere refl refl))
-        (λ t. rw t (placed-at (marks n (entries s)) (itemsOf (s .candidates .list)) (o .all) (s .candidates .taken - 1)))
+        split (eqb (s .candidates .taken) 0) (λ t. rw t (nowhere (omega arith) (omega arith)))
+        (λ t. rw t (placed-at n (entries s) (itemsOf (s .candidates .list)) (o .all) (s .candidates .taken - 1)))
 
-    next-placed : Placed (marks n (entries s)) (nextIndex (length (entries s)) (s .candidates)) (nextPlace (sight n s))
+    next-placed : Placed n (entries s) (nextIndex (length (entries s)) (s .candidates)) (nextPlace (sight n s))
     unfolding nextIndex
     next-placed =
         let c = s .candidates in
-        let i : getD (drop (c .taken) (itemsOf (c .list))) 0 255 ≡ getD (itemsOf (c .list)) (c .taken) 255 =
-        getD-drop (c .taken) (itemsOf (c .list)) 0 255 ∙ ap (λ (k : ℕ). getD (itemsOf (c .list)) k 255) (add-zero (c .taken)) in
-        rw (no-skip, i) (placed-at (marks n (entries s)) (itemsOf (c .list)) (o .all) (c .taken))
+        let m = length (entries s) in
+        let i : getD (drop (c .taken) (itemsOf (c .list))) 0 m ≡ getD (itemsOf (c .list)) (c .taken) m =
+        getD-drop (c .taken) (itemsOf (c .list)) 0 m ∙ ap (λ (k : ℕ). getD (itemsOf (c .list)) k m) (add-zero (c .taken)) in
+        rw (no-skip, i) (placed-at n (entries s) (itemsOf (c .list)) (o .all) (c .taken))
 
-    module _ (d : Tidy s) where
-      pub tried-in : tried s ≡ triedSeen n (sight n s)
-      unfolding triedIn
-      tried-in = entry-shows n (entries s) (triedIndex (s .candidates)) (triedPlace (sight n s)) (entries-few s d) tried-placed
+    pub tried-in : tried s ≡ triedSeen n (sight n s)
+    unfolding triedIn
+    tried-in = entry-shows n (entries s) (triedIndex (length (entries s)) (s .candidates)) (triedPlace (sight n s)) tried-placed
 
-      pub next-in : next s ≡ nextSeen n (sight n s)
-      unfolding nextIn
-      next-in = entry-shows n (entries s) (nextIndex (length (entries s)) (s .candidates)) (nextPlace (sight n s)) (entries-few s d) next-placed
+    pub next-in : next s ≡ nextSeen n (sight n s)
+    unfolding nextIn
+    next-in = entry-shows n (entries s) (nextIndex (length (entries s)) (s .candidates)) (nextPlace (sight n s)) next-placed
 
 -- WRITES
 
@@ -160,20 +173,20 @@ module _ (n : ℕ) (s : State) where
 
   potential-cleared-long : length (potential-kept (entries s)) ≡ length (entries s)
   unfolding potentialClearedTried
-  potential-cleared-long = potential-long (triedIndex (s .candidates)) (entries s)
+  potential-cleared-long = potential-long (triedIndex (length (entries s)) (s .candidates)) (entries s)
 
   potential-cleared-marks : marks n (potential-kept (entries s)) ≡ marks n (entries s)
   unfolding potentialClearedTried potentialClearedAt
-  potential-cleared-marks = marks-change (ofNetwork n) withoutPotential (λ e. refl) (triedIndex (s .candidates)) (entries s)
+  potential-cleared-marks = marks-change (ofNetwork n) withoutPotential (λ e. refl) (triedIndex (length (entries s)) (s .candidates)) (entries s)
 
-  potential-cleared-shows : Tidy s → Ours n s → shows n (potential-kept (entries s)) ≡ potentialClearedIn n true (sight n s) .list
+  potential-cleared-shows : Ours n s → shows n (potential-kept (entries s)) ≡ potentialClearedIn n true (sight n s) .list
   unfolding potentialClearedTried potentialClearedAt
-  potential-cleared-shows d o = changed-shows n withoutPotential mild-potential (λ e. refl) (entries s) (triedIndex (s .candidates)) (triedPlace (sight n s)) (entries-few s d) (tried-placed n s o)
+  potential-cleared-shows o = changed-shows n withoutPotential mild-potential (λ e. refl) (entries s) (triedIndex (length (entries s)) (s .candidates)) (triedPlace (sight n s)) (tried-placed n s o)
 
-  potential-cleared-sight : (b : Bool) → Tidy s → Ours n s → sight n (potentialCleared b s) ≡ potentialClearedIn n b (sight n s)
+  potential-cleared-sight : (b : Bool) → Ours n s → sight n (potentialCleared b s) ≡ potentialClearedIn n b (sight n s)
   unfolding potentialCleared
-  potential-cleared-sight true d o = changed-sight n potential-kept s potential-cleared-long potential-cleared-marks (potential-cleared-shows d o)
-  potential-cleared-sight false d o = refl
+  potential-cleared-sight true o = changed-sight n potential-kept s potential-cleared-long potential-cleared-marks (potential-cleared-shows o)
+  potential-cleared-sight false o = refl
 
   potential-cleared-tidy : (b : Bool) → Tidy s → Tidy (potentialCleared b s)
   unfolding potentialCleared
@@ -188,11 +201,13 @@ module _ (n : ℕ) (s : State) where
 -- the next candidate is taken
 
 abbrev takenIn : Sight → Sight
-takenIn v = record { list = v .list; places = v .places; taken = min (v .taken + 0 + 1) 255 }
+takenIn v = record { list = v .list; places = v .places; taken = min (v .taken + 0 + 1) (length (v .places)) }
 
 taken-sight : (n : ℕ) (s : State) → Ours n s → sight n (takenNext s) ≡ takenIn (sight n s)
 unfolding taking
-taken-sight n s o = λ i. record { list = sight n s .list; places = sight n s .places; taken = min (s .candidates .taken + no-skip n s o i + 1) 255 }
+taken-sight n s o =
+    let l = itemsOf (s .candidates .list) in
+    λ i. record { list = sight n s .list; places = sight n s .places; taken = min (s .candidates .taken + no-skip n s o i + 1) (sym (length-map l (rank (marks n (entries s)))) i) }
 
 taken-tidy : (s : State) → Tidy s → Tidy (takenNext s)
 unfolding taking
@@ -219,12 +234,12 @@ module _ (n : ℕ) (s : State) where
   unfolding adoptedNext
   adopt-marks = adopted-marks n (nextIndex (length (entries s)) (s .candidates)) (entries s)
 
-  adopt-shows : Tidy s → Ours n s → shows n (adopting (entries s)) ≡ adoptedIn n (nextPlace (sight n s)) (sight n s .list)
+  adopt-shows : Ours n s → shows n (adopting (entries s)) ≡ adoptedIn n (nextPlace (sight n s)) (sight n s .list)
   unfolding adoptedNext
-  adopt-shows d o = adopted-shows n (entries s) (nextIndex (length (entries s)) (s .candidates)) (nextPlace (sight n s)) (entries-few s d) (next-placed n s o)
+  adopt-shows o = adopted-shows n (entries s) (nextIndex (length (entries s)) (s .candidates)) (nextPlace (sight n s)) (next-placed n s o)
 
-  adopt-sight : Tidy s → Ours n s → sight n adoptedState ≡ record { list = adoptedIn n (nextPlace (sight n s)) (sight n s .list); places = sight n s .places; taken = s .candidates .taken }
-  adopt-sight d o = changed-sight n adopting s adopt-long adopt-marks (adopt-shows d o)
+  adopt-sight : Ours n s → sight n adoptedState ≡ record { list = adoptedIn n (nextPlace (sight n s)) (sight n s .list); places = sight n s .places; taken = s .candidates .taken }
+  adopt-sight o = changed-sight n adopting s adopt-long adopt-marks (adopt-shows o)
 
   adopt-ours : Ours n s → Ours n adoptedState
   adopt-ours o = changed-ours n adopting s adopt-long adopt-marks o
@@ -237,17 +252,17 @@ module _ (n : ℕ) (some : n ≡ 0 → ⊥) (s : State) where
 
   join-long : length (joining (entries s)) ≡ length (entries s)
   unfolding joinedTried
-  join-long = cleared-long (marked (triedIndex (s .candidates)) (entries s)) ∙ marked-long (triedIndex (s .candidates)) (entries s)
+  join-long = cleared-long (marked (triedIndex (length (entries s)) (s .candidates)) (entries s)) ∙ marked-long (triedIndex (length (entries s)) (s .candidates)) (entries s)
 
-  join-shows : Tidy s → Ours n s → shows n (joining (entries s)) ≡ joinedIn n (triedPlace (sight n s)) (sight n s .list)
+  join-shows : Ours n s → shows n (joining (entries s)) ≡ joinedIn n (triedPlace (sight n s)) (sight n s .list)
   unfolding joinedTried
-  join-shows d o = joined-shows n some (entries s) (triedIndex (s .candidates)) (triedPlace (sight n s)) (entries-few s d) (tried-placed n s o)
+  join-shows o = joined-shows n some (entries s) (triedIndex (length (entries s)) (s .candidates)) (triedPlace (sight n s)) (tried-placed n s o)
 
   join-places : (l : List ℕ) → map (rank (marks n (entries (withTable (onEntries joining (s .table)) s)))) l ≡ map (λ k. 0) (map (rank (marks n (entries s))) l)
   unfolding joinedTried
   join-places [] = refl
   join-places (i ∷ l) =
-      λ j. (ap (λ (es : List NwkNeighbor). rank (marks n es) i) (entries-on joining (s .table) join-long) ∙ joined-ranks n some (marked (triedIndex (s .candidates)) (entries s)) i) j ∷ join-places l j
+      λ j. (ap (λ (es : List NwkNeighbor). rank (marks n es) i) (entries-on joining (s .table) join-long) ∙ joined-ranks n some (marked (triedIndex (length (entries s)) (s .candidates)) (entries s)) i) j ∷ join-places l j
 
 -- what a decision does with the candidates
 
@@ -264,14 +279,14 @@ joins AdoptNext = false
 joins JoinTried = true
 
 module _ (n : ℕ) (some : n ≡ 0 → ⊥) where
-  moved-sight : (m : Move) (s : State) → Tidy s → Ours n s → sight n (moved m s) ≡ movedIn n m (sight n s)
+  moved-sight : (m : Move) (s : State) → Ours n s → sight n (moved m s) ≡ movedIn n m (sight n s)
   unfolding moved
-  moved-sight Stay s d o = refl
-  moved-sight TakeNext s d o = taken-sight n s o
-  moved-sight AdoptNext s d o = taken-sight n (adoptedState n s) (adopt-ours n s o) ∙ ap takenIn (adopt-sight n s d o)
-  moved-sight JoinTried s d o =
+  moved-sight Stay s o = refl
+  moved-sight TakeNext s o = taken-sight n s o
+  moved-sight AdoptNext s o = taken-sight n (adoptedState n s) (adopt-ours n s o) ∙ ap takenIn (adopt-sight n s o)
+  moved-sight JoinTried s o =
       λ i. record {
-        list = changed-list n (joining n some s) s (join-long n some s) (join-shows n some s d o) i;
+        list = changed-list n (joining n some s) s (join-long n some s) (join-shows n some s o) i;
         places = join-places n some s (itemsOf (s .candidates .list)) i;
         taken = s .candidates .taken;
       }
@@ -295,8 +310,8 @@ abbrev pub writtenIn : ℕ → Bool → Move → Sight → Sight
 writtenIn n b m v = movedIn n m (potentialClearedIn n b v)
 
 module _ (n : ℕ) (some : n ≡ 0 → ⊥) (b : Bool) (m : Move) (s : State) where
-  pub written-sight : Tidy s → Ours n s → sight n (moved m (potentialCleared b s)) ≡ writtenIn n b m (sight n s)
-  written-sight d o = moved-sight n some m (potentialCleared b s) (potential-cleared-tidy n s b d) (potential-cleared-ours n s b o) ∙ ap (movedIn n m) (potential-cleared-sight n s b d o)
+  pub written-sight : Ours n s → sight n (moved m (potentialCleared b s)) ≡ writtenIn n b m (sight n s)
+  written-sight o = moved-sight n some m (potentialCleared b s) (potential-cleared-ours n s b o) ∙ ap (movedIn n m) (potential-cleared-sight n s b o)
 
   pub written-tidy : Tidy s → Tidy (moved m (potentialCleared b s))
   written-tidy d = moved-tidy m (potentialCleared b s) (potential-cleared-tidy n s b d)
@@ -317,17 +332,17 @@ module _ (permit : Bool) (n : ℕ) (some : n ≡ 0 → ⊥) (i : CapabilityInfor
   chosen-items = over-take (replicate 16 0) choice
 
   pub chosen-sight : sight n (withChosen permit n i s) ≡ record { list = sight n s .list; places = choiceIn profile (bit 1 (i .0)) permit n (sight n s .list); taken = 0 }
-  unfolding chosen
+  unfolding withChosen
   chosen-sight =
       ap (λ (l : List ℕ). record { list = sight n s .list; places = l; taken = 0 })
       (ap (map (rank (marks n (entries s)))) chosen-items ∙ choice-shows profile (bit 1 (i .0)) permit n some (entries s))
 
   pub chosen-tidy : Tidy s → Tidy (withChosen permit n i s)
-  unfolding chosen
+  unfolding withChosen
   chosen-tidy d = record { small = d .small; few = omega (arith, few-candidates profile (bit 1 (i .0)) permit n (entries s), entries-few s d) }
 
   pub chosen-ours : Ours n (withChosen permit n i s)
-  unfolding chosen
+  unfolding withChosen
   chosen-ours =
       record {
         all = subst⁻¹ (λ (l : List ℕ). All (λ j. isMarked (marks n (entries s)) j ≡ true) l) chosen-items (choice-ours profile (bit 1 (i .0)) permit n some (entries s));
@@ -338,23 +353,23 @@ module _ (permit : Bool) (n : ℕ) (some : n ≡ 0 → ⊥) (i : CapabilityInfor
 module _ (ds : List PanDescriptor) (s : State) (within : shortAddressed ds ≤ 16) where
   heard-entries : entries (heard ds s) ≡ neighborsOf ds
   unfolding heard
-  heard-entries = entries-of (take 16 (neighborsOf ds)) ∙ neighbors-all ds within
+  heard-entries = entries-of (neighborsOf ds)
 
   pub heard-tidy : s .candidates .list .count ≤ 16 → Tidy (heard ds s)
   unfolding heard
-  heard-tidy h = record { small = omega (arith, length-take 16 (neighborsOf ds)); few = h }
+  heard-tidy h = record { small = omega (arith, neighbors-many ds); few = h }
 
   pub heard-list : (n : ℕ) → shows n (entries (heard ds s)) ≡ neighborsOf (select (beaconOf n) ds)
   heard-list n = ap (shows n) heard-entries ∙ scan-shows n ds
 
 -- a frame teaches its sender's address
 
-abbrev learntIn : OptionalIeee → ShortAddress → List NwkNeighbor → List NwkNeighbor
+abbrev pub learntIn : OptionalIeee → ShortAddress → List NwkNeighbor → List NwkNeighbor
 learntIn NoIeee a l = l
 learntIn (Ieee x) a l = map (taughtTo (a .0) x) l
 
 -- who is said to have sent a frame; nobody teaches nothing
-abbrev sender : ReceivedFrame → Source
+abbrev pub sender : ReceivedFrame → Source
 sender Undecodable = record { address = record { 0 = 0 }; ieee = NoIeee }
 sender (Data f) = f
 sender (RejoinResponseCommand f r) = f
@@ -432,9 +447,13 @@ tried-within-table n s o =
 abbrev pub badIn : Control → ℕ → Bool
 badIn c k = ltb 16 (c .nlme .«transmit_failures» .count) || (ltb 16 k || (ltb 20 (c .operation .«polls_left») || false))
 
-pub bad-is : (n : ℕ) (s : State) → Tidy s → (awaitsAssociation (s .control .operation .phase) ≡ true → Ours n s) → bad s ≡ badIn (s .control) (s .candidates .taken)
-unfolding bad indexPastTable
-bad-is n s d o = rw (le-ltb 16 (s .table .count) (d .small), le-ltb 16 (s .candidates .list .count) (d .few), past)
+pub bad-is : (n : ℕ) (s : State) → Tidy s → (live (s .control) ≡ true → Ours n s) → bad s ≡ badIn (s .control) (s .candidates .taken)
+unfolding bad
+bad-is n s d o = rw (le-ltb 16 (s .table .count) (d .small), le-ltb 16 (s .candidates .list .count) (d .few), past (s .control .operation .phase) o)
   where
-    past : indexPastTable s ≡ false
-    past = split (awaitsAssociation (s .control .operation .phase)) (λ t. rw (t, tried-within-table n s (o t))) (λ t. rw t)
+    past : (p : Phase) → (liveIn p (s .control .operation .scanned) ≡ true → Ours n s) → pastIn (associationFor p) (s .table .count) (s .candidates) ≡ false
+    past Phase.Association h = tried-within-table n s (h refl)
+    past Phase.Idle h = refl
+    past (Phase.Scan u) h = refl
+    past (Phase.Transmission u) h = refl
+    past (Phase.Reception u) h = refl

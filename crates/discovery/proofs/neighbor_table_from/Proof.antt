@@ -52,16 +52,16 @@ mul-old : tie.Need-mul-old Inv-loop μ-loop
 mul-old c = omega arith
 
 element-copy-out-old : tie.Need-element-copy-out-old Inv-loop μ-loop
-element-copy-out-old c = c .slot-of .ensures .1
+element-copy-out-old c = omega (arith, c .slot-of .ensures)
 
 placed-requires : tie.Need-placed-requires Inv-loop μ-loop
 placed-requires c κs = search needs
 
 mul-e : tie.Need-mul-e Inv-loop μ-loop
-mul-e c = omega (arith, c .before .before .slot-of .ensures .1)
+mul-e c = omega (arith, c .before .before .slot-of .ensures)
 
 element-set-from-e : tie.Need-element-set-from-e Inv-loop μ-loop
-element-set-from-e c = c .before .before .slot-of .ensures .1
+element-set-from-e c = omega (arith, c .before .before .slot-of .ensures)
 
 counted-requires : tie.Need-counted-requires Inv-loop μ-loop
 counted-requires c κs = search needs
@@ -84,7 +84,7 @@ loop-again c =
     let x = neighborOf (getD (l .descriptors) i noDescriptor) in
     let h : i < length (l .descriptors) = omega (arith, s .in-use .ensures .0, length-take (l .count) (l .descriptors)) in (
       omega arith,
-      rw (c .counted .ensures, p .placed .ensures, o .slot-of .ensures .0, f .neighbor-from .ensures)
+      rw (c .counted .ensures, p .placed .ensures, o .slot-of .ensures, f .neighbor-from .ensures)
           (ap (λ (t : NeighborTable). added t x) (b .loop .inv .1)
           ∙ rw (neighbors-next (l .descriptors) i noDescriptor h) (added-next (neighborsOf (take i (l .descriptors))) x)),
     )

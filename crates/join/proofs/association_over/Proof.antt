@@ -37,8 +37,8 @@ returns-2 c =
 clears-requires : tie.Need-clears-requires
 clears-requires c κs = search needs
 
-join-status-requires : tie.Need-join-status-requires
-join-status-requires c κs = search needs
+failed-status-requires : tie.Need-failed-status-requires
+failed-status-requires c κs = search needs
 
 candidate-failed-requires-2 : tie.Need-candidate-failed-requires-2
 candidate-failed-requires-2 c κs = search needs
@@ -49,7 +49,7 @@ returns-3 c =
     let a = c .before .before .before .before .before .before .before .args in
     let o = c .before .before .before .before .before .outcome .given in
     let s = o .0 .0 .status in
-    rw (c .candidate-failed2 .ensures, c .before .join-status .ensures, c .before .before .clears .ensures)
+    rw (c .candidate-failed2 .ensures, c .before .failed-status .ensures, c .before .before .clears .ensures)
     (pick-false (eqb s 0) _ _ (ne-eqb s 0 (c .before .before .before .if1 .left))
     ∙ sym (ap (λ (x : AssociationOutcome). associated x (a .tried) (a .next) (a .control)) (o .1)))
 
@@ -64,6 +64,6 @@ association-over-spec =
     succeeded-requires
     returns-2
     clears-requires
-    join-status-requires
+    failed-status-requires
     candidate-failed-requires-2
     returns-3)

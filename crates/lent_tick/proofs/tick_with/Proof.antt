@@ -1,6 +1,7 @@
 -- `tick_with` meets its contract. Assumes nothing.
 use mathlib.Core.Path.{ap, _∙_}
-use Rattle.node.specs.Calls.{tick}
+use Rattle.node.specs.Calls.{elapsed, answer}
+use Rattle.node.specs.declared.State.{State}
 use Rattle.lent_tick.proofs.LentTick.{if-refused, if-not-refused}
 use borrow.Author.Needs.{needs}
 use Rattle.lent_tick.proofs.tick_with.Statement.{statement}
@@ -19,13 +20,13 @@ turned-down-requires : tie.Need-turned-down-requires
 turned-down-requires c κs = search needs
 
 returns : tie.Need-returns
-returns c = c .turned-down .ensures ∙ if-refused (c .before .before .before .before .before .args .timer) (c .before .before .before .before .before .args .elapsed-ms) (c .before .before .before .before .before .args .state) (c .before .before .before .tick-parent-timeout .result) (c .before .before .before .tick-parent-timeout .ensures ∙ ap (tick (c .before .before .before .before .before .args .elapsed-ms)) (c .before .before .before .before .with-timer .ensures)) _ (c .before .enum-told .given .1)
+returns c = c .turned-down .ensures ∙ if-refused (c .before .before .before .before .before .args .timer) (c .before .before .before .before .before .args .elapsed-ms) (c .before .before .before .before .before .args .state) (c .before .before .before .tick-parent-timeout .result) (c .before .before .before .tick-parent-timeout .ensures ∙ ap (λ (x : State). answer x (elapsed (c .before .before .before .before .before .args .elapsed-ms))) (c .before .before .before .before .with-timer .ensures)) _ (c .before .enum-told .given .1)
 
 leaving-requires : tie.Need-leaving-requires
 leaving-requires c κs = search needs
 
 returns-2 : tie.Need-returns-2
-returns-2 c = c .leaving .ensures ∙ if-not-refused (c .before .before .before .before .args .timer) (c .before .before .before .before .args .elapsed-ms) (c .before .before .before .before .args .state) (c .before .before .tick-parent-timeout .result) (c .before .before .tick-parent-timeout .ensures ∙ ap (tick (c .before .before .before .before .args .elapsed-ms)) (c .before .before .before .with-timer .ensures)) (c .before .match .keys2)
+returns-2 c = c .leaving .ensures ∙ if-not-refused (c .before .before .before .before .args .timer) (c .before .before .before .before .args .elapsed-ms) (c .before .before .before .before .args .state) (c .before .before .tick-parent-timeout .result) (c .before .before .tick-parent-timeout .ensures ∙ ap (λ (x : State). answer x (elapsed (c .before .before .before .before .args .elapsed-ms))) (c .before .before .before .with-timer .ensures)) (c .before .match .keys2)
 
 pub tick-with-spec : {M : Type 1} → statement M
 tick-with-spec =

@@ -18,7 +18,7 @@ accepted-requires c κs = search needs
 returns : tie.Need-returns
 returns c =
     let a = c .before .before .before .args in
-    c .accepted .ensures ∙ ap (accepted (a .keepalive)) (c .before .before .no-timeout-response .ensures) ∙ pick-true (eqb (a .status) 0) _ _ (eq-eqb (a .status) 0 (c .before .if1 .taken))
+    c .accepted .ensures ∙ ap (accepted (a .purpose)) (c .before .before .no-timeout-response .ensures) ∙ pick-true (eqb (a .status) 0) _ _ (eq-eqb (a .status) 0 (c .before .if1 .taken))
 
 timeout-failed-requires : tie.Need-timeout-failed-requires
 timeout-failed-requires c κs = search needs
@@ -26,7 +26,7 @@ timeout-failed-requires c κs = search needs
 returns-2 : tie.Need-returns-2
 returns-2 c =
     let a = c .before .before .before .args in
-    c .timeout-failed .ensures ∙ ap (timeoutFailed NotNegotiated (a .keepalive) (a .parent)) (c .before .before .no-timeout-response .ensures) ∙ pick-false (eqb (a .status) 0) _ _ (ne-eqb (a .status) 0 (c .before .if1 .left))
+    c .timeout-failed .ensures ∙ ap (timeoutFailed NotNegotiated (a .purpose) (a .parent)) (c .before .before .no-timeout-response .ensures) ∙ pick-false (eqb (a .status) 0) _ _ (ne-eqb (a .status) 0 (c .before .if1 .left))
 
 pub timeout-answered-spec : {M : Type 1} → statement M
 timeout-answered-spec = tie.close (tie.spec no-timeout-response-requires accepted-requires returns timeout-failed-requires returns-2)

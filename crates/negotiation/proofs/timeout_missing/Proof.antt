@@ -1,46 +1,66 @@
 -- `timeout_missing` meets its contract. Assumes nothing.
-use Rattle.exchange.specs.Exchange.{timeoutUnanswered, timeoutPollParent, timeoutPolling}
 use mathlib.Core.Path.{sym, ap, _∙_}
-use Rattle.nib.specs.declared.Neighbor.{Neighbor}
 use lib.Dec.{eqb}
 use borrow.Author.Tests.{eq-eqb, ne-eqb}
 use Rattle.lists.proofs.Conditions.{pick-true, pick-false}
+use Rattle.nib.specs.declared.Neighbor.{Neighbor}
+use Rattle.management.specs.declared.NegotiationAnswer.the-variants.{NotNegotiated}
+use Rattle.operation.specs.Operation.{withPollsLeft, pollOn}
+use Rattle.operation.specs.declared.Purpose.the-variants.{TimeoutResponse}
+use Rattle.exchange.specs.Exchange.{timeoutFailed}
 use borrow.Author.Needs.{needs}
 use Rattle.negotiation.proofs.timeout_missing.Statement.{statement}
 use Rattle.negotiation.proofs.timeout_missing.Tie as tie
+
+enum-told : tie.Need-enum-told
+enum-told c = search needs
 
 timeout-unanswered-requires : tie.Need-timeout-unanswered-requires
 timeout-unanswered-requires c κs = search needs
 
 returns : tie.Need-returns
+unfolding pollOn
 returns c =
     let a = c .before .before .before .args in
-    c .timeout-unanswered .ensures ∙ pick-true (eqb (a .control .operation .«polls_left») 0) _ _ (eq-eqb (a .control .operation .«polls_left») 0 (c .before .if1 .taken))
+    c .timeout-unanswered .ensures
+    ∙ sym (ap (λ (x : Neighbor). pollOn (TimeoutResponse (a .purpose)) x (timeoutFailed NotNegotiated (a .purpose) (a .parent)) (a .control)) (c .before .enum-told .given .1))
 
-enum-told : tie.Need-enum-told
-enum-told c = search needs
+enum-known-parent : tie.Need-enum-known-parent
+enum-known-parent c = search needs
 
 timeout-unanswered-requires-2 : tie.Need-timeout-unanswered-requires-2
 timeout-unanswered-requires-2 c κs = search needs
 
 returns-2 : tie.Need-returns-2
-unfolding timeoutPollParent
+unfolding pollOn
 returns-2 c =
-    let a = c .before .before .before .before .before .args in
-    let e = c .before .enum-told .given .1 in
-    c .timeout-unanswered2 .ensures ∙ ap (λ (x : Neighbor). timeoutUnanswered (a .keepalive) x (a .control)) e ∙ sym (ap (λ (x : Neighbor). timeoutPollParent (a .keepalive) x (a .control)) e) ∙ pick-false (eqb (a .control .operation .«polls_left») 0) _ _ (ne-eqb (a .control .operation .«polls_left») 0 (c .before .before .before .if1 .left))
-
-enum-known-parent : tie.Need-enum-known-parent
-enum-known-parent c = search needs
+    let a = c .before .before .before .before .before .before .args in
+    let k = a .control .operation .«polls_left» in
+    c .timeout-unanswered2 .ensures
+    ∙ sym (ap (λ (x : Neighbor). timeoutFailed NotNegotiated (a .purpose) x (withPollsLeft 0 (a .control))) (c .before .before .before .before .parent .given .1))
+    ∙ pick-true (eqb k 0) _ _ (eq-eqb k 0 (c .before .if1 .taken))
+    ∙ sym (ap (λ (x : Neighbor). pollOn (TimeoutResponse (a .purpose)) x (timeoutFailed NotNegotiated (a .purpose) (a .parent)) (a .control)) (c .before .before .before .before .parent .given .1))
 
 poll-counted-requires : tie.Need-poll-counted-requires
 poll-counted-requires c κs = search needs
 
 returns-3 : tie.Need-returns-3
-unfolding timeoutPollParent timeoutPolling
+unfolding pollOn
 returns-3 c =
     let a = c .before .before .before .before .before .before .args in
-    c .poll-counted .ensures ∙ sym (ap (λ (x : Neighbor). timeoutPollParent (a .keepalive) x (a .control)) (c .before .before .parent .given .1)) ∙ pick-false (eqb (a .control .operation .«polls_left») 0) _ _ (ne-eqb (a .control .operation .«polls_left») 0 (c .before .before .before .before .if1 .left))
+    let k = a .control .operation .«polls_left» in
+    c .poll-counted .ensures ∙ pick-false (eqb k 0) _ _ (ne-eqb k 0 (c .before .if1 .left))
+    ∙ sym (ap (λ (x : Neighbor). pollOn (TimeoutResponse (a .purpose)) x (timeoutFailed NotNegotiated (a .purpose) (a .parent)) (a .control)) (c .before .before .before .before .parent .given .1))
 
 pub timeout-missing-spec : {M : Type 1} → statement M
-timeout-missing-spec = tie.close (tie.spec timeout-unanswered-requires returns enum-told timeout-unanswered-requires-2 returns-2 enum-known-parent poll-counted-requires returns-3)
+timeout-missing-spec =
+    tie.close
+    (tie.spec
+    enum-told
+    timeout-unanswered-requires
+    returns
+    enum-known-parent
+    timeout-unanswered-requires-2
+    returns-2
+    poll-counted-requires
+    returns-3)

@@ -6,14 +6,14 @@ use borrow.Author.Needs.{needs}
 use Rattle.negotiation.proofs.timeout_request_sent.Statement.{statement}
 use Rattle.negotiation.proofs.timeout_request_sent.Tie as tie
 
-timeout-poll-on-requires : tie.Need-timeout-poll-on-requires
-timeout-poll-on-requires c κs = search needs
+timeout-goes-on-requires : tie.Need-timeout-goes-on-requires
+timeout-goes-on-requires c κs = search needs
 
 returns : tie.Need-returns
 unfolding timeoutRequestSent
 returns c =
     let a = c .before .before .args in
-    c .timeout-poll-on .ensures ∙ sym (ap (λ (x : Bool). timeoutRequestSent (a .keepalive) x (a .parent) (a .control)) (c .before .if1 .taken))
+    c .timeout-goes-on .ensures ∙ sym (ap (λ (x : Bool). timeoutRequestSent (a .purpose) x (a .parent) (a .control)) (c .before .if1 .taken))
 
 timeout-failed-requires : tie.Need-timeout-failed-requires
 timeout-failed-requires c κs = search needs
@@ -22,7 +22,7 @@ returns-2 : tie.Need-returns-2
 unfolding timeoutRequestSent
 returns-2 c =
     let a = c .before .before .args in
-    c .timeout-failed .ensures ∙ sym (ap (λ (x : Bool). timeoutRequestSent (a .keepalive) x (a .parent) (a .control)) (c .before .if1 .left))
+    c .timeout-failed .ensures ∙ sym (ap (λ (x : Bool). timeoutRequestSent (a .purpose) x (a .parent) (a .control)) (c .before .if1 .left))
 
 pub timeout-request-sent-spec : {M : Type 1} → statement M
-timeout-request-sent-spec = tie.close (tie.spec timeout-poll-on-requires returns timeout-failed-requires returns-2)
+timeout-request-sent-spec = tie.close (tie.spec timeout-goes-on-requires returns timeout-failed-requires returns-2)

@@ -20,7 +20,7 @@ returns : tie.Need-returns
 unfolding timeoutStarted
 returns c =
     let a = c .before .before .before .before .args in
-    rw (c .timeout-failed .ensures, c .before .before .before .no-timeout-response .ensures) (ap (λ (x : Neighbor). timeoutFailed NegotiationNotJoined (a .keepalive) x (noTimeoutResponse (a .control))) (c .before .enum-told .given .1) ∙ sym (ap (λ (x : Neighbor). timeoutStarted (a .keepalive) x (a .control)) (c .before .enum-told .given .1)))
+    rw (c .timeout-failed .ensures, c .before .before .before .no-timeout-response .ensures) (ap (λ (x : Neighbor). timeoutFailed NegotiationNotJoined (a .purpose) x (noTimeoutResponse (a .control))) (c .before .enum-told .given .1) ∙ sym (ap (λ (x : Neighbor). timeoutStarted (a .purpose) x (a .control)) (c .before .enum-told .given .1)))
 
 enum-known-parent : tie.Need-enum-known-parent
 enum-known-parent c = search needs
@@ -32,7 +32,7 @@ returns-2 : tie.Need-returns-2
 unfolding timeoutStarted
 returns-2 c =
     let a = c .before .before .before .before .before .args in
-    rw (c .request-timeout .ensures, c .before .before .before .before .no-timeout-response .ensures) (sym (ap (λ (x : Neighbor). timeoutStarted (a .keepalive) x (a .control)) (c .before .before .parent .given .1)))
+    rw (c .request-timeout .ensures, c .before .before .before .before .no-timeout-response .ensures) (sym (ap (λ (x : Neighbor). timeoutStarted (a .purpose) x (a .control)) (c .before .before .parent .given .1)))
 
 pub timeout-started-spec : {M : Type 1} → statement M
 timeout-started-spec = tie.close (tie.spec no-timeout-response-requires enum-told timeout-failed-requires returns enum-known-parent request-timeout-requires returns-2)

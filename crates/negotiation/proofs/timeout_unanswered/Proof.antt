@@ -1,5 +1,4 @@
 -- `timeout_unanswered` meets its contract. Assumes nothing.
-use Rattle.exchange.specs.Exchange.{timeoutUnanswered}
 use borrow.Author.Needs.{needs}
 use Rattle.negotiation.proofs.timeout_unanswered.Statement.{statement}
 use Rattle.negotiation.proofs.timeout_unanswered.Tie as tie
@@ -10,13 +9,8 @@ with-polls-requires c κs = search needs
 timeout-failed-requires : tie.Need-timeout-failed-requires
 timeout-failed-requires c κs = search needs
 
-after-polls-requires : tie.Need-after-polls-requires
-after-polls-requires c κs = search needs
-
 returns : tie.Need-returns
-unfolding timeoutUnanswered
-returns c =
-    rw (c .after-polls .ensures, c .before .timeout-failed .ensures, c .before .before .with-polls .ensures)
+returns c = rw (c .timeout-failed .ensures, c .before .with-polls .ensures)
 
 pub timeout-unanswered-spec : {M : Type 1} → statement M
-timeout-unanswered-spec = tie.close (tie.spec with-polls-requires timeout-failed-requires after-polls-requires returns)
+timeout-unanswered-spec = tie.close (tie.spec with-polls-requires timeout-failed-requires returns)

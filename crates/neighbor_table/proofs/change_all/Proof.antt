@@ -12,7 +12,8 @@ use Rattle.lists.proofs.Maps.{map-next, take-used, drop-used}
 use Rattle.nib.specs.Neighbors.{blank, entriesOf}
 use Rattle.nib.specs.declared.NwkNeighbor.{NwkNeighbor}
 use Rattle.nib.specs.declared.NeighborTable.{NeighborTable}
-use Rattle.neighbor_table.specs.NeighborTable.{changed, onEntries}
+use Rattle.neighbor_table.specs.NeighborTable.{onEntries}
+use Rattle.neighbor_table.specs.Steps.{changed}
 use Rattle.neighbor_table.proofs.change_all.Statement.{statement}
 use Rattle.neighbor_table.proofs.change_all.Tie as tie
 

@@ -8,7 +8,8 @@ use Rattle.lists.specs.Lists.{changeAt}
 use Rattle.lists.proofs.Lists.{length-mapped}
 use Rattle.lists.proofs.Maps.{change-past, change-set}
 use Rattle.nib.specs.Neighbors.{blank, entriesOf}
-use Rattle.neighbor_table.specs.NeighborTable.{changed, onEntries}
+use Rattle.neighbor_table.specs.NeighborTable.{onEntries}
+use Rattle.neighbor_table.specs.Steps.{changed}
 use Rattle.neighbor_table.proofs.Entries.{on-kept}
 use Rattle.neighbor_table.proofs.change_at.Statement.{statement}
 use Rattle.neighbor_table.proofs.change_at.Tie as tie

@@ -1,25 +1,26 @@
 -- `first` meets its contract. Assumes nothing.
 use Prim.Native.Nat.{_≤_, _<_, _-_, _+_}
-use mathlib.Core.Path.{_≡_, sym, ap, _∙_}
+use mathlib.Core.Path.{_≡_, ap, _∙_}
 use mathlib.Core.List.{[]}
 use native.Mathlib.Omega.{arith}
 use borrow.Author.Needs.{needs}
-use lib.ListN.{length, drop, getD, length-take, drop-of-length-le}
+use borrow.Author.Tests.{eq-eqb, ne-eqb}
+use lib.ListN.{length, drop, length-take, drop-of-length-le}
 use Rattle.lists.specs.Lists.{firstIndex}
 use Rattle.lists.proofs.Lists.{length-mapped}
 use Rattle.lists.proofs.First.{first-here, first-on}
 use Rattle.nib.specs.Neighbors.{blank, entriesOf}
 use Rattle.nib.proofs.Tables.{entry-read}
-use Rattle.neighbor_table.specs.NeighborTable.{isWanted}
+use Rattle.neighbor_table.specs.NeighborTable.{hasAddress}
 use Rattle.neighbor_table.proofs.first.Statement.{statement}
 use Rattle.neighbor_table.proofs.first.Tie as tie
 
 abbrev Inv-loop : tie.InvT-loop
-Inv-loop wanted table count i₀ i =
-    (count ≤ 16) × (i ≤ count) × (firstIndex (isWanted wanted) (entriesOf table) ≡ i + firstIndex (isWanted wanted) (drop i (entriesOf table)))
+Inv-loop address table count i₀ i =
+    (count ≤ 16) × (i ≤ count) × (firstIndex (hasAddress (address .0)) (entriesOf table) ≡ i + firstIndex (hasAddress (address .0)) (drop i (entriesOf table)))
 
 abbrev μ-loop : tie.MeasureT-loop
-μ-loop wanted table count i₀ i = count - i
+μ-loop address table count i₀ i = count - i
 
 len-requires : tie.Need-len-requires Inv-loop μ-loop
 len-requires c κs = search needs
@@ -33,35 +34,23 @@ loop-holds c =
 cast-at : tie.Need-cast-at Inv-loop μ-loop
 cast-at c = omega arith
 
-mul-is-wanted : tie.Need-mul-is-wanted Inv-loop μ-loop
-mul-is-wanted c = omega arith
+mul-if1 : tie.Need-mul-if1 Inv-loop μ-loop
+mul-if1 c = omega arith
 
-mul-is-wanted-2 : tie.Need-mul-is-wanted-2 Inv-loop μ-loop
-mul-is-wanted-2 c = omega arith
-
-element-copy-out-is-wanted : tie.Need-element-copy-out-is-wanted Inv-loop μ-loop
-element-copy-out-is-wanted c = omega arith
-
-element-copy-out-is-wanted-2 : tie.Need-element-copy-out-is-wanted-2 Inv-loop μ-loop
-element-copy-out-is-wanted-2 c = omega arith
-
-is-wanted-requires : tie.Need-is-wanted-requires Inv-loop μ-loop
-is-wanted-requires c κs = search needs
+element-copy-out-if1 : tie.Need-element-copy-out-if1 Inv-loop μ-loop
+element-copy-out-if1 c = omega arith
 
 -- at the test of the entry at i: it is one of the entries in use
-below : (c : tie.After-is-wanted Inv-loop μ-loop) → c .before .before .loop .i < length (entriesOf (c .before .before .before .before .args .t1))
+below : (c : tie.After-struct-known Inv-loop μ-loop) → c .before .before .loop .i < length (entriesOf (c .before .before .before .before .args .t1))
 below c = omega (arith, c .before .before .before .len .ensures)
-
-test : (c : tie.After-is-wanted Inv-loop μ-loop) → isWanted (c .before .before .before .before .args .wanted) (getD (entriesOf (c .before .before .before .before .args .t1)) (c .before .before .loop .i) blank) ≡ c .is-wanted .result
-test c =
-    let a = c .before .before .before .before .args in
-    ap (isWanted (a .wanted)) (entry-read (a .t1) (c .before .before .loop .i) (below c)) ∙ sym (c .is-wanted .ensures)
 
 returns : tie.Need-returns Inv-loop μ-loop
 returns c =
     let b = c .before .before .before in
-    let s = b .before .before in
-    omega (arith, b .loop .inv .2, first-here (isWanted (s .args .wanted)) (entriesOf (s .args .t1)) (b .loop .i) blank (below (c .before)) (test (c .before) ∙ c .if1 .taken))
+    let a = b .before .before .args in
+    let p = hasAddress (a .address .0) in
+    let h = below (c .before) in
+    omega (arith, b .loop .inv .2, first-here p (entriesOf (a .t1)) (b .loop .i) blank h (ap p (entry-read (a .t1) (b .loop .i) h) ∙ eq-eqb _ _ (c .if1 .taken)))
 
 add-i : tie.Need-add-i Inv-loop μ-loop
 add-i c = omega arith
@@ -72,10 +61,12 @@ loop-less c = omega arith
 loop-again : tie.Need-loop-again Inv-loop μ-loop
 loop-again c =
     let b = c .before .before .before in
-    let s = b .before .before in (
+    let a = b .before .before .args in
+    let p = hasAddress (a .address .0) in
+    let h = below (c .before) in (
       b .loop .inv .0,
       omega arith,
-      omega (arith, b .loop .inv .2, first-on (isWanted (s .args .wanted)) (entriesOf (s .args .t1)) (b .loop .i) blank (below (c .before)) (test (c .before) ∙ c .if1 .left)),
+      omega (arith, b .loop .inv .2, first-on p (entriesOf (a .t1)) (b .loop .i) blank h (ap p (entry-read (a .t1) (b .loop .i) h) ∙ ne-eqb _ _ (c .if1 .left))),
     )
 
 returns-2 : tie.Need-returns-2 Inv-loop μ-loop
@@ -85,7 +76,7 @@ returns-2 c =
     let i = c .before .loop .i in
     let h : length es ≤ i = omega (arith, c .before .before .len .ensures) in
     let e : drop i es ≡ [] = drop-of-length-le es h in
-    let k : firstIndex (isWanted (s .args .wanted)) (drop i es) ≡ 0 = rw e in
+    let k : firstIndex (hasAddress (s .args .address .0)) (drop i es) ≡ 0 = rw e in
     omega (arith, c .before .loop .inv .2)
 
 pub first-spec : {M : Type 1} → statement M
@@ -97,11 +88,8 @@ first-spec =
     len-requires
     loop-holds
     cast-at
-    mul-is-wanted
-    element-copy-out-is-wanted
-    mul-is-wanted-2
-    element-copy-out-is-wanted-2
-    is-wanted-requires
+    mul-if1
+    element-copy-out-if1
     returns
     add-i
     loop-less

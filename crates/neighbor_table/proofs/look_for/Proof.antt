@@ -1,6 +1,7 @@
 -- `look_for` meets its contract. Assumes nothing.
-use Prim.Native.Nat.{_≤_, _<_, _-_}
+use Prim.Native.Nat.{ℕ, _≤_, _<_, _-_}
 use mathlib.Core.Path.{_≡_, refl, sym, ap, _∙_}
+use mathlib.Core.Bool.{Bool, true, false, cond}
 use mathlib.Core.List.{List}
 use native.Mathlib.Omega.{arith}
 use borrow.Author.Needs.{needs}
@@ -12,22 +13,29 @@ use Rattle.nib.specs.declared.NwkNeighbor.{NwkNeighbor}
 use Rattle.nib.specs.declared.Neighbor.{Neighbor}
 use Rattle.nib.specs.declared.Neighbor.the-variants.{Entry}
 use Rattle.nib.proofs.Tables.{entry-read}
-use Rattle.neighbor_table.specs.declared.Wanted.{Wanted}
-use Rattle.neighbor_table.specs.NeighborTable.{isWanted}
+use Rattle.neighbor_table.specs.NeighborTable.{hasAddress, isParent, found, parentOf}
 use Rattle.neighbor_table.proofs.Looks.{look-here, look-on}
 use Rattle.neighbor_table.proofs.look_for.Statement.{statement}
 use Rattle.neighbor_table.proofs.look_for.Tie as tie
 
 -- the first entry of a list that is wanted
-abbrev look : Wanted → List NwkNeighbor → Neighbor
-look wanted es = entryAt es (firstIndex (isWanted wanted) es)
+abbrev isWanted : Bool → ℕ → NwkNeighbor → Bool
+isWanted parent a e = cond parent (isParent e) (hasAddress a e)
+
+abbrev look : Bool → ℕ → List NwkNeighbor → Neighbor
+look parent a es = entryAt es (firstIndex (isWanted parent a) es)
+
+looked : (parent : Bool) (a : ℕ) (es : List NwkNeighbor) → look parent a es ≡ cond parent (parentOf es) (found a es)
+unfolding parentOf found
+looked true a es = refl
+looked false a es = refl
 
 abbrev Inv-loop : tie.InvT-loop
-Inv-loop wanted table count i₀ i =
-    (count ≤ 16) × (i ≤ count) × (look wanted (entriesOf table) ≡ look wanted (drop i (entriesOf table)))
+Inv-loop parent address table count i₀ i =
+    (count ≤ 16) × (i ≤ count) × (look parent (address .0) (entriesOf table) ≡ look parent (address .0) (drop i (entriesOf table)))
 
 abbrev μ-loop : tie.MeasureT-loop
-μ-loop wanted table count i₀ i = count - i
+μ-loop parent address table count i₀ i = count - i
 
 len-requires : tie.Need-len-requires Inv-loop μ-loop
 len-requires c κs = search needs
@@ -58,11 +66,12 @@ returns : tie.Need-returns Inv-loop μ-loop
 returns c =
     let b = c .before .before .before .before in
     let a = b .before .before .args in
-    let p = isWanted (a .wanted) in
+    let p = isWanted (a .parent) (a .address .0) in
     let h = below (c .before) in
     let r = entry-read (a .t1) (b .loop .i) h in
     sym
-    (b .loop .inv .2
+    (sym (looked (a .parent) (a .address .0) (entriesOf (a .t1)))
+    ∙ b .loop .inv .2
     ∙ look-here p (entriesOf (a .t1)) (b .loop .i) h (ap p r ∙ sym (c .before .is-wanted .ensures) ∙ c .if1 .taken)
     ∙ ap (λ (e : NwkNeighbor). Entry e) r)
 
@@ -76,7 +85,7 @@ loop-again : tie.Need-loop-again Inv-loop μ-loop
 loop-again c =
     let b = c .before .before .before .before in
     let a = b .before .before .args in
-    let p = isWanted (a .wanted) in
+    let p = isWanted (a .parent) (a .address .0) in
     let h = below (c .before) in (
       b .loop .inv .0,
       omega arith,
@@ -89,7 +98,7 @@ returns-2 c =
     let s = c .before .before .before in
     let es = entriesOf (s .args .t1) in
     let h : length es ≤ c .before .loop .i = omega (arith, c .before .before .len .ensures) in
-    sym (c .before .loop .inv .2 ∙ ap (look (s .args .wanted)) (drop-of-length-le es h))
+    sym (sym (looked (s .args .parent) (s .args .address .0) es) ∙ c .before .loop .inv .2 ∙ ap (look (s .args .parent) (s .args .address .0)) (drop-of-length-le es h))
 
 pub look-for-spec : {M : Type 1} → statement M
 look-for-spec =

@@ -12,11 +12,8 @@ with-polls-requires c κs = search needs
 poll-requires : tie.Need-poll-requires
 poll-requires c κs = search needs
 
-after-polls-requires : tie.Need-after-polls-requires
-after-polls-requires c κs = search needs
-
 returns : tie.Need-returns
-returns c = rw (c .after-polls .ensures, c .before .poll .ensures, c .before .before .with-polls .ensures, c .before .before .before .one-less .ensures)
+returns c = rw (c .poll .ensures, c .before .with-polls .ensures, c .before .before .one-less .ensures)
 
 pub poll-counted-spec : {M : Type 1} → statement M
-poll-counted-spec = tie.close (tie.spec one-less-requires with-polls-requires poll-requires after-polls-requires returns)
+poll-counted-spec = tie.close (tie.spec one-less-requires with-polls-requires poll-requires returns)

@@ -6,14 +6,14 @@ use borrow.Author.Needs.{needs}
 use Rattle.rejoin_try.proofs.request_sent.Statement.{statement}
 use Rattle.rejoin_try.proofs.request_sent.Tie as tie
 
-poll-on-requires : tie.Need-poll-on-requires
-poll-on-requires c κs = search needs
+try-goes-on-requires : tie.Need-try-goes-on-requires
+try-goes-on-requires c κs = search needs
 
 returns : tie.Need-returns
 unfolding requestSent
 returns c =
     let a = c .before .before .args in
-    c .poll-on .ensures ∙ sym (ap (λ (x : Bool). requestSent x (a .parent) (a .next) (a .control)) (c .before .if1 .taken))
+    c .try-goes-on .ensures ∙ sym (ap (λ (x : Bool). requestSent x (a .parent) (a .next) (a .control)) (c .before .if1 .taken))
 
 try-failed-requires : tie.Need-try-failed-requires
 try-failed-requires c κs = search needs
@@ -25,4 +25,4 @@ returns-2 c =
     c .try-failed .ensures ∙ sym (ap (λ (x : Bool). requestSent x (a .parent) (a .next) (a .control)) (c .before .if1 .left))
 
 pub request-sent-spec : {M : Type 1} → statement M
-request-sent-spec = tie.close (tie.spec poll-on-requires returns try-failed-requires returns-2)
+request-sent-spec = tie.close (tie.spec try-goes-on-requires returns try-failed-requires returns-2)

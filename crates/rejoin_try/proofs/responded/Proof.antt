@@ -18,8 +18,8 @@ returns c =
     let s = c .before .before .before .args .response .status in
     c .rejoined .ensures ∙ pick-true (eqb s 0) _ _ (eq-eqb s 0 (c .before .if1 .taken))
 
-join-status-requires : tie.Need-join-status-requires
-join-status-requires c κs = search needs
+failed-status-requires : tie.Need-failed-status-requires
+failed-status-requires c κs = search needs
 
 try-failed-requires : tie.Need-try-failed-requires
 try-failed-requires c κs = search needs
@@ -29,10 +29,10 @@ unfolding responded
 returns-2 c =
     let a = c .before .before .before .before .args in
     let s = a .response .status in
-    c .try-failed .ensures ∙ ap (λ (x : NlmeJoinStatus). tryFailed x (a .next) (a .control)) (c .before .join-status .ensures)
+    c .try-failed .ensures ∙ ap (λ (x : NlmeJoinStatus). tryFailed x (a .next) (a .control)) (c .before .failed-status .ensures)
     ∙ pick-false (eqb s 0) _ _ (ne-eqb s 0 (c .before .before .if1 .left))
 
 pub responded-spec : {M : Type 1} → statement M
 responded-spec =
     tie.close
-    (tie.spec rejoined-requires returns join-status-requires try-failed-requires returns-2)
+    (tie.spec rejoined-requires returns failed-status-requires try-failed-requires returns-2)

@@ -1,18 +1,16 @@
 -- `unanswered` meets its contract. Assumes nothing.
-use Rattle.rejoin.specs.Rejoin.{unanswered}
 use borrow.Author.Needs.{needs}
 use Rattle.rejoin_try.proofs.unanswered.Statement.{statement}
 use Rattle.rejoin_try.proofs.unanswered.Tie as tie
 
+with-polls-requires : tie.Need-with-polls-requires
+with-polls-requires c κs = search needs
+
 try-failed-requires : tie.Need-try-failed-requires
 try-failed-requires c κs = search needs
 
-after-polls-requires : tie.Need-after-polls-requires
-after-polls-requires c κs = search needs
-
 returns : tie.Need-returns
-unfolding unanswered
-returns c = rw (c .after-polls .ensures, c .before .try-failed .ensures)
+returns c = rw (c .try-failed .ensures, c .before .with-polls .ensures)
 
 pub unanswered-spec : {M : Type 1} → statement M
-unanswered-spec = tie.close (tie.spec try-failed-requires after-polls-requires returns)
+unanswered-spec = tie.close (tie.spec with-polls-requires try-failed-requires returns)

@@ -7,10 +7,11 @@ use borrow.Author.Tests.{lt-ltb, le-ltb}
 use lib.ListN.{length, length-take, List·getD-eq-default}
 use Rattle.lists.specs.Lists.{firstIndex}
 use Rattle.lists.proofs.Lists.{length-mapped}
-use Rattle.lists.proofs.Pairs.{some-first, change-is}
-use Rattle.supervision.specs.Failures.{pairsOf, failuresOf, ofAddress, blankPair, countedOnce, withRoom, added, pairPushed, recorded}
+use Rattle.lists.proofs.First.{change-first}
+use Rattle.lists.proofs.Pairs.{some-first}
+use Rattle.supervision.specs.Failures.{pairsOf, failuresOf, ofAddress, blankPair, countedOnce, withRoom, added, recorded}
 use Rattle.supervision.specs.declared.TransmitFailures.{TransmitFailures}
-use Rattle.supervision.proofs.Failures.{push-of, room-few}
+use Rattle.supervision.proofs.Failures.{pairPushed, push-of, room-few}
 use Rattle.supervision.proofs.record_transmit_failure.Statement.{statement}
 use Rattle.supervision.proofs.record_transmit_failure.Tie as tie
 
@@ -30,7 +31,7 @@ returns c =
     let l = pairsOf (s .args .failures) in
     let p = ofAddress (s .args .neighbor) in
     let h : firstIndex p l < length l = omega (arith, c .before .before .find .ensures, c .before .before .before .in-use .ensures) in
-    c .count-at .ensures ∙ rw (c .before .before .find .ensures, some-first p l, lt-ltb (firstIndex p l) (length l) h, change-is p countedOnce l blankPair)
+    c .count-at .ensures ∙ rw (c .before .before .find .ensures, some-first p l, lt-ltb (firstIndex p l) (length l) h, change-first p countedOnce l)
 
 with-room-requires : tie.Need-with-room-requires
 with-room-requires c κs = search needs

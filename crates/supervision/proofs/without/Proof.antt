@@ -10,10 +10,10 @@ use lib.Seq.{getD-take, take-all, length-take-le}
 use Rattle.lists.specs.Lists.{removeAt}
 use Rattle.lists.proofs.Lists.{length-mapped, take-next}
 use Rattle.lists.proofs.Pairs.{remove-snoc, remove-last, remove-le}
-use Rattle.supervision.specs.Failures.{pairsOf, failuresOf, pairPushed, blankPair}
+use Rattle.supervision.specs.Failures.{pairsOf, failuresOf, blankPair}
 use Rattle.supervision.specs.declared.TransmitFailure.{TransmitFailure}
 use Rattle.supervision.specs.declared.TransmitFailures.{TransmitFailures}
-use Rattle.supervision.proofs.Failures.{push-of}
+use Rattle.supervision.proofs.Failures.{pairPushed, push-of}
 use Rattle.supervision.proofs.without.Statement.{statement}
 use Rattle.supervision.proofs.without.Tie as tie
 

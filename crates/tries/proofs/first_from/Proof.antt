@@ -10,10 +10,13 @@ use Rattle.lists.specs.Lists.{firstIndex}
 use Rattle.lists.proofs.First.{first-here, first-on}
 use Rattle.candidates.specs.Candidates.{itemsOf}
 use Rattle.candidates.specs.declared.CandidateList.{CandidateList}
-use Rattle.tries.specs.Tries.{within}
 use borrow.Author.Needs.{needs}
 use Rattle.tries.proofs.first_from.Statement.{statement}
 use Rattle.tries.proofs.first_from.Tie as tie
+
+-- the code's test: an index is below the limit, or is not
+abbrev within : Bool → ℕ → ℕ → Bool
+within below limit i = cond below (ltb i limit) (not (ltb i limit))
 
 abbrev Inv-loop : tie.InvT-loop
 Inv-loop from limit below list count place₀ place =

@@ -17,7 +17,7 @@ returns : tie.Need-returns
 returns c =
     let a = c .before .before .args in
     let h : length (itemsOf (a .t1)) ≤ a .place = omega (arith, c .before .in-use .ensures) in
-    sym (List·getD-eq-default (itemsOf (a .t1)) 255 h)
+    sym (List·getD-eq-default (itemsOf (a .t1)) (a .none) h)
 
 element-copy-out-result : tie.Need-element-copy-out-result
 element-copy-out-result c =
@@ -32,7 +32,7 @@ returns-2 c =
     let n : length (l .indexes) ≡ 16 = search needs in
     let h : a .place < l .count = omega (arith, c .before .before .in-use .ensures, length-take (l .count) (l .indexes)) in
     let k : a .place < length (l .indexes) = omega (arith, c .before .before .in-use .ensures, length-take (l .count) (l .indexes)) in
-    getD-any (l .indexes) (a .place) 0 255 k ∙ sym (getD-take (l .count) (l .indexes) (a .place) 255 h)
+    getD-any (l .indexes) (a .place) 0 (a .none) k ∙ sym (getD-take (l .count) (l .indexes) (a .place) (a .none) h)
 
 pub index-at-spec : {M : Type 1} → statement M
 index-at-spec = tie.close (tie.spec in-use-requires returns element-copy-out-result returns-2)

@@ -18,7 +18,7 @@ unfolding nextIndex skipped
 returns c =
     let a = c .before .before .args in
     rw (c .index-at .ensures, c .before .first-from .ensures)
-    (sym (getD-drop (a .candidates .taken) (itemsOf (a .candidates .list)) (skipped (a .count) (a .candidates)) 255))
+    (sym (getD-drop (a .candidates .taken) (itemsOf (a .candidates .list)) (skipped (a .count) (a .candidates)) (a .count)))
 
 pub next-index-spec : {M : Type 1} → statement M
 next-index-spec = tie.close (tie.spec first-from-requires index-at-requires returns)

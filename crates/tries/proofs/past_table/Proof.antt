@@ -1,7 +1,7 @@
 -- `past_table` meets its contract. Assumes nothing.
 use Prim.Native.Nat.{ℕ, _+_, _-_}
 use mathlib.Core.Path.{_≡_, refl}
-use mathlib.Core.Bool.{Bool, true, false}
+use mathlib.Core.Bool.{Bool, true, false, not}
 use mathlib.Core.List.{List}
 use native.Mathlib.Omega.{arith}
 use lib.Dec.{ltb}
@@ -10,7 +10,7 @@ use borrow.Author.Tests.{ltb-true, ltb-false, lt-ltb, le-ltb}
 use Rattle.lists.specs.Lists.{firstIndex, some}
 use Rattle.lists.proofs.Pairs.{some-first}
 use Rattle.candidates.specs.Candidates.{itemsOf}
-use Rattle.tries.specs.Tries.{pastTable, within}
+use Rattle.tries.specs.Tries.{pastTable}
 use borrow.Author.Needs.{needs}
 use Rattle.tries.proofs.past_table.Statement.{statement}
 use Rattle.tries.proofs.past_table.Tie as tie
@@ -36,7 +36,7 @@ returns : tie.Need-returns
 unfolding pastTable
 returns c =
     let a = c .before .before .before .before .args in
-    rw (c .first-from .ensures, c .before .before .in-use .ensures, c .before .if1 .taken) (found (within false (a .count)) (itemsOf (a .candidates .list)) 0)
+    rw (c .first-from .ensures, c .before .before .in-use .ensures, c .before .if1 .taken) (found (λ i. not (ltb i (a .count))) (itemsOf (a .candidates .list)) 0)
 
 sub-first-from : tie.Need-sub-first-from
 sub-first-from c = search needs
@@ -48,7 +48,7 @@ returns-2 : tie.Need-returns-2
 unfolding pastTable
 returns-2 c =
     let a = c .before .before .before .before .args in
-    rw (c .first-from2 .ensures, c .before .before .in-use .ensures) (found (within false (a .count)) (itemsOf (a .candidates .list)) (a .candidates .taken - 1))
+    rw (c .first-from2 .ensures, c .before .before .in-use .ensures) (found (λ i. not (ltb i (a .count))) (itemsOf (a .candidates .list)) (a .candidates .taken - 1))
 
 pub past-table-spec : {M : Type 1} → statement M
 past-table-spec =

@@ -4,6 +4,7 @@ use mathlib.Core.Path.{_≡_, ap}
 use native.Mathlib.Omega.{arith}
 use lib.ListN.{length}
 use Rattle.nib.specs.Neighbors.{entriesOf}
+use Rattle.candidates.specs.Candidates.{itemsOf}
 use Rattle.tries.specs.Tries.{skipped, taking}
 use Rattle.tries.specs.declared.Candidates.{Candidates}
 use borrow.Author.Needs.{needs}
@@ -12,6 +13,9 @@ use Rattle.tries.proofs.take_next.Tie as tie
 
 abbrev takenTo : ℕ → Candidates → Candidates
 takenTo k c = record { list = c .list; taken = k }
+
+in-use-requires : tie.Need-in-use-requires
+in-use-requires c κs = search needs
 
 len-requires : tie.Need-len-requires
 len-requires c κs = search needs
@@ -22,9 +26,10 @@ first-from-requires c κs = search needs
 returns : tie.Need-returns
 unfolding taking skipped
 returns c =
-    let a = c .before .before .before .args in
-    let e : 255 ≡ min (a .candidates .taken + skipped (length (entriesOf (a .table))) (a .candidates) + 1) 255 =
-    rw (← c .before .before .len .ensures) (omega (arith, c .before .first-from .ensures)) in
+    let b = c .before .before .before in
+    let a = b .before .args in
+    let e : b .in-use .result ≡ min (a .candidates .taken + skipped (length (entriesOf (a .table))) (a .candidates) + 1) (length (itemsOf (a .candidates .list))) =
+    rw (← c .before .before .len .ensures) (omega (arith, c .before .first-from .ensures, b .in-use .ensures)) in
     ap (λ (k : ℕ). takenTo k (a .candidates)) e
 
 add-out : tie.Need-add-out
@@ -33,10 +38,13 @@ add-out c = search needs
 returns-2 : tie.Need-returns-2
 unfolding taking skipped
 returns-2 c =
-    let a = c .before .before .before .args in
-    let e : c .before .first-from .result + 1 ≡ min (a .candidates .taken + skipped (length (entriesOf (a .table))) (a .candidates) + 1) 255 =
-    rw (← c .before .before .len .ensures) (omega (arith, c .before .first-from .ensures)) in
+    let b = c .before .before .before in
+    let a = b .before .args in
+    let e : c .before .first-from .result + 1 ≡ min (a .candidates .taken + skipped (length (entriesOf (a .table))) (a .candidates) + 1) (length (itemsOf (a .candidates .list))) =
+    rw (← c .before .before .len .ensures) (omega (arith, c .before .first-from .ensures, b .in-use .ensures)) in
     ap (λ (k : ℕ). takenTo k (a .candidates)) e
 
 pub take-next-spec : {M : Type 1} → statement M
-take-next-spec = tie.close (tie.spec len-requires first-from-requires returns add-out returns-2)
+take-next-spec =
+    tie.close
+    (tie.spec in-use-requires len-requires first-from-requires returns add-out returns-2)

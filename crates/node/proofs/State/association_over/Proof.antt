@@ -1,12 +1,34 @@
 -- `State::association_over` meets its contract. Assumes nothing.
-use mathlib.Core.Path.{refl}
-use Rattle.operation.specs.Operation.{awaitsAssociation}
-use Rattle.node.specs.Refusals.{outcomeOrRefusal}
-use Rattle.node.specs.Calls.{associationOver}
-use Rattle.node.proofs.Guards.{guarded}
+use mathlib.Core.Path.{sym, ap, _∙_}
+use Rattle.lists.proofs.Conditions.{pick-true, pick-false}
+use Rattle.operation.specs.declared.Phase.{Phase}
+use Rattle.operation.specs.Operation.{associationFor}
+use Rattle.node.specs.Refusals.{bad, outcome}
+use Rattle.node.specs.Calls.{associationOver, answer}
+use Rattle.node.proofs.TurnedDown.{no-association}
 use borrow.Author.Needs.{needs}
 use Rattle.node.proofs.State.association_over.Statement.{statement}
 use Rattle.node.proofs.State.association_over.Tie as tie
+
+is-bad-requires : tie.Need-is-bad-requires
+is-bad-requires c κs = search needs
+
+refuse-requires : tie.Need-refuse-requires
+refuse-requires c κs = search needs
+
+returns : tie.Need-returns
+unfolding answer
+returns c = c .refuse .ensures ∙ pick-true (bad (c .before .before .before .args .self)) _ _ (sym (c .before .before .is-bad .ensures) ∙ c .before .if1 .taken)
+
+enum-told : tie.Need-enum-told
+enum-told c = search needs
+
+refuse-requires-2 : tie.Need-refuse-requires-2
+refuse-requires-2 c κs = search needs
+
+returns-2 : tie.Need-returns-2
+unfolding answer
+returns-2 c = c .refuse2 .ensures ∙ no-association (c .before .before .before .before .before .args .self .control .operation .phase) _ _ (c .before .match .keys2) ∙ pick-false (bad (c .before .before .before .before .before .args .self)) _ _ (sym (c .before .before .before .before .is-bad .ensures) ∙ c .before .before .before .if1 .left)
 
 tried-requires : tie.Need-tried-requires
 tried-requires c κs = search needs
@@ -17,23 +39,12 @@ next-requires c κs = search needs
 association-over-requires : tie.Need-association-over-requires
 association-over-requires c κs = search needs
 
-refusal-requires : tie.Need-refusal-requires
-refusal-requires c κs = search needs
+carried-out-requires : tie.Need-carried-out-requires
+carried-out-requires c κs = search needs
 
-closed-requires : tie.Need-closed-requires
-closed-requires c κs = search needs
-
-returns : tie.Need-returns
-unfolding associationOver outcomeOrRefusal
-returns c = let a = c .before .before .before .before .before .args in rw (c .closed .ensures, c .before .refusal .ensures, c .before .before .association-over .ensures, c .before .before .before .next .ensures, c .before .before .before .before .tried .ensures) (guarded (a .self) (awaitsAssociation (a .self .control .operation .phase)) 2 refl refl)
+returns-3 : tie.Need-returns-3
+unfolding answer outcome
+returns-3 c = rw (c .carried-out .ensures, c .before .association-over .ensures, c .before .before .next .ensures, c .before .before .before .tried .ensures) (sym (ap (λ (p : Phase). outcome (associationFor p) (associationOver (c .before .before .before .before .before .before .before .before .before .args .outcome)) (c .before .before .before .before .before .before .before .before .before .args .self)) (c .before .before .before .before .enum-told .given .1)) ∙ pick-false (bad (c .before .before .before .before .before .before .before .before .before .args .self)) _ _ (sym (c .before .before .before .before .before .before .before .before .is-bad .ensures) ∙ c .before .before .before .before .before .before .before .if1 .left))
 
 pub association-over-spec : {M : Type 1} → statement M
-association-over-spec =
-    tie.close
-    (tie.spec
-    tried-requires
-    next-requires
-    association-over-requires
-    refusal-requires
-    closed-requires
-    returns)
+association-over-spec = tie.close (tie.spec is-bad-requires refuse-requires returns enum-told refuse-requires-2 returns-2 tried-requires next-requires association-over-requires carried-out-requires returns-3)

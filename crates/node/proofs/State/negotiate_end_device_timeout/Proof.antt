@@ -1,22 +1,13 @@
 -- `State::negotiate_end_device_timeout` meets its contract. Assumes nothing.
-use Rattle.node.specs.Calls.{startTimeout}
 use borrow.Author.Needs.{needs}
 use Rattle.node.proofs.State.negotiate_end_device_timeout.Statement.{statement}
 use Rattle.node.proofs.State.negotiate_end_device_timeout.Tie as tie
 
-parent-requires : tie.Need-parent-requires
-parent-requires c κs = search needs
-
-timeout-started-requires : tie.Need-timeout-started-requires
-timeout-started-requires c κs = search needs
-
-starting-requires : tie.Need-starting-requires
-starting-requires c κs = search needs
+start-timeout-requires : tie.Need-start-timeout-requires
+start-timeout-requires c κs = search needs
 
 returns : tie.Need-returns
-unfolding startTimeout
-returns c = rw (c .starting .ensures, c .before .timeout-started .ensures, c .before .before .parent .ensures)
+returns c = c .start-timeout .ensures
 
 pub negotiate-end-device-timeout-spec : {M : Type 1} → statement M
-negotiate-end-device-timeout-spec =
-    tie.close (tie.spec parent-requires timeout-started-requires starting-requires returns)
+negotiate-end-device-timeout-spec = tie.close (tie.spec start-timeout-requires returns)

@@ -1,18 +1,29 @@
 -- `State::receive` meets its contract. Assumes nothing.
-use Rattle.node.specs.Calls.{startReceive}
+use Rattle.node.specs.Calls.{answer}
+use Rattle.node.proofs.TurnedDown.{start-refused, start-made}
 use borrow.Author.Needs.{needs}
 use Rattle.node.proofs.State.receive.Statement.{statement}
 use Rattle.node.proofs.State.receive.Tie as tie
 
+start-refusal-requires : tie.Need-start-refusal-requires
+start-refusal-requires c κs = search needs
+
+refuse-requires : tie.Need-refuse-requires
+refuse-requires c κs = search needs
+
+returns : tie.Need-returns
+unfolding answer
+returns c = rw (c .refuse .ensures) (start-refused (c .before .before .before .args .self) _ _ (c .before .before .start-refusal .ensures) (c .before .if1 .taken))
+
 receive-started-requires : tie.Need-receive-started-requires
 receive-started-requires c κs = search needs
 
-starting-requires : tie.Need-starting-requires
-starting-requires c κs = search needs
+carried-out-requires : tie.Need-carried-out-requires
+carried-out-requires c κs = search needs
 
-returns : tie.Need-returns
-unfolding startReceive
-returns c = rw (c .starting .ensures, c .before .receive-started .ensures)
+returns-2 : tie.Need-returns-2
+unfolding answer
+returns-2 c = rw (c .carried-out .ensures, c .before .receive-started .ensures) (start-made (c .before .before .before .before .args .self) _ _ (c .before .before .before .start-refusal .ensures) (c .before .before .if1 .left))
 
 pub receive-spec : {M : Type 1} → statement M
-receive-spec = tie.close (tie.spec receive-started-requires starting-requires returns)
+receive-spec = tie.close (tie.spec start-refusal-requires refuse-requires returns receive-started-requires carried-out-requires returns-2)

@@ -1,68 +1,41 @@
 -- `State::reception_over` meets its contract. Assumes nothing.
-use mathlib.Core.Path.{refl, ap, _∙_}
-use mathlib.Core.Bool.{cond}
-use Rattle.operation.specs.Operation.{awaitsReception}
-use Rattle.node.specs.declared.Answer.{Answer}
-use Rattle.node.specs.Refusals.{refuse, bad, otherOrRefusal, outcomeOrRefusal}
-use Rattle.node.specs.Calls.{receptionOver}
-use Rattle.node.proofs.Guards.{guarded}
-use Rattle.node.proofs.Closing.{nothing-is, failed-is, frame-is}
+use mathlib.Core.Path.{sym, ap, _∙_}
+use Rattle.lists.proofs.Conditions.{pick-true, pick-false}
+use Rattle.operation.specs.declared.Phase.{Phase}
+use Rattle.operation.specs.Operation.{receptionFor}
+use Rattle.node.specs.Refusals.{bad, outcome}
+use Rattle.node.specs.Calls.{receptionOver, answer}
+use Rattle.node.proofs.TurnedDown.{no-reception}
 use borrow.Author.Needs.{needs}
 use Rattle.node.proofs.State.reception_over.Statement.{statement}
 use Rattle.node.proofs.State.reception_over.Tie as tie
 
-enum-told : tie.Need-enum-told
-enum-told c = search needs
+is-bad-requires : tie.Need-is-bad-requires
+is-bad-requires c κs = search needs
 
-phase-requires : tie.Need-phase-requires
-phase-requires c κs = search needs
-
-no-data-in-requires : tie.Need-no-data-in-requires
-no-data-in-requires c κs = search needs
-
-nothing-received-requires : tie.Need-nothing-received-requires
-nothing-received-requires c κs = search needs
+refuse-requires : tie.Need-refuse-requires
+refuse-requires c κs = search needs
 
 returns : tie.Need-returns
-unfolding receptionOver otherOrRefusal outcomeOrRefusal
-returns c = let a = c .before .before .before .before .before .args in rw (c .before .before .before .enum-told .given .1, c .nothing-received .ensures, c .before .no-data-in .ensures, c .before .before .phase .ensures) (ap (λ (x : Answer). cond (bad (a .self)) (refuse 5 (a .self)) x) (nothing-is (a .self .control .operation .phase) (a .self)))
+unfolding answer
+returns c = c .refuse .ensures ∙ pick-true (bad (c .before .before .before .args .self)) _ _ (sym (c .before .before .is-bad .ensures) ∙ c .before .if1 .taken)
 
-enum-told-2 : tie.Need-enum-told-2
-enum-told-2 c = search needs
+enum-known-phase : tie.Need-enum-known-phase
+enum-known-phase c = search needs
 
-nothing-received-requires-2 : tie.Need-nothing-received-requires-2
-nothing-received-requires-2 c κs = search needs
+refuse-requires-2 : tie.Need-refuse-requires-2
+refuse-requires-2 c κs = search needs
 
 returns-2 : tie.Need-returns-2
-unfolding receptionOver otherOrRefusal outcomeOrRefusal
-returns-2 c = let a = c .before .before .before .args in rw (c .before .enum-told2 .given .1, c .nothing-received2 .ensures) (ap (λ (x : Answer). cond (bad (a .self)) (refuse 5 (a .self)) x) (failed-is (a .self .control .operation .phase) (a .self)))
+unfolding answer
+returns-2 c = c .refuse2 .ensures ∙ no-reception (c .before .before .before .before .before .args .self .control .operation .phase) _ _ (c .before .match .keys2) ∙ pick-false (bad (c .before .before .before .before .before .args .self)) _ _ (sym (c .before .before .before .before .is-bad .ensures) ∙ c .before .before .before .if1 .left)
 
-enum-known-outcome : tie.Need-enum-known-outcome
-enum-known-outcome c = search needs
-
-frame-received-requires : tie.Need-frame-received-requires
-frame-received-requires c κs = search needs
-
-dealt-with-requires : tie.Need-dealt-with-requires
-dealt-with-requires c κs = search needs
+received-requires : tie.Need-received-requires
+received-requires c κs = search needs
 
 returns-3 : tie.Need-returns-3
-unfolding receptionOver otherOrRefusal
-returns-3 c = let a = c .before .before .before .before .before .args in rw (c .before .before .before .outcome .given .1, c .dealt-with .ensures, c .before .frame-received .ensures) (guarded (a .self) (awaitsReception (a .self .control .operation .phase)) 2 refl refl ∙ ap (λ (x : Answer). cond (bad (a .self)) (refuse 5 (a .self)) x) (frame-is (a .self .control .operation .phase) _ (a .self)))
+unfolding answer outcome
+returns-3 c = c .received .ensures ∙ (sym (ap (λ (p : Phase). outcome (receptionFor p) (receptionOver (c .before .before .before .before .before .before .before .args .outcome)) (c .before .before .before .before .before .before .before .args .self)) (c .before .before .phase .given .1)) ∙ pick-false (bad (c .before .before .before .before .before .before .before .args .self)) _ _ (sym (c .before .before .before .before .before .before .is-bad .ensures) ∙ c .before .before .before .before .before .if1 .left))
 
 pub reception-over-spec : {M : Type 1} → statement M
-reception-over-spec =
-    tie.close
-    (tie.spec
-    enum-told
-    phase-requires
-    no-data-in-requires
-    nothing-received-requires
-    returns
-    enum-told-2
-    nothing-received-requires-2
-    returns-2
-    enum-known-outcome
-    frame-received-requires
-    dealt-with-requires
-    returns-3)
+reception-over-spec = tie.close (tie.spec is-bad-requires refuse-requires returns enum-known-phase refuse-requires-2 returns-2 received-requires returns-3)

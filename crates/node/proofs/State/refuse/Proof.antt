@@ -1,6 +1,7 @@
 -- `State::refuse` meets its contract. Assumes nothing.
 use mathlib.Core.Path.{refl}
 use Rattle.node.specs.Refusals.{refuse}
+use borrow.Author.Needs.{needs}
 use Rattle.node.proofs.State.refuse.Statement.{statement}
 use Rattle.node.proofs.State.refuse.Tie as tie
 

@@ -22,5 +22,4 @@ unfolding choose
 returns-2 c = rw (c .select-candidates .ensures) (pick-false (bad (c .before .before .before .args .self)) _ _ (sym (c .before .before .is-bad .ensures) ∙ c .before .if1 .left))
 
 pub select-candidates-spec : {M : Type 1} → statement M
-select-candidates-spec =
-    tie.close (tie.spec is-bad-requires returns select-candidates-requires returns-2)
+select-candidates-spec = tie.close (tie.spec is-bad-requires returns select-candidates-requires returns-2)

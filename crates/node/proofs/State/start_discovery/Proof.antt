@@ -1,18 +1,29 @@
 -- `State::start_discovery` meets its contract. Assumes nothing.
-use Rattle.node.specs.Calls.{startDiscovery}
+use Rattle.node.specs.Calls.{answer}
+use Rattle.node.proofs.TurnedDown.{start-refused, start-made}
 use borrow.Author.Needs.{needs}
 use Rattle.node.proofs.State.start_discovery.Statement.{statement}
 use Rattle.node.proofs.State.start_discovery.Tie as tie
 
-discovery-started-requires : tie.Need-discovery-started-requires
-discovery-started-requires c κs = search needs
+start-refusal-requires : tie.Need-start-refusal-requires
+start-refusal-requires c κs = search needs
 
-starting-requires : tie.Need-starting-requires
-starting-requires c κs = search needs
+refuse-requires : tie.Need-refuse-requires
+refuse-requires c κs = search needs
 
 returns : tie.Need-returns
-unfolding startDiscovery
-returns c = rw (c .starting .ensures, c .before .discovery-started .ensures)
+unfolding answer
+returns c = rw (c .refuse .ensures) (start-refused (c .before .before .before .args .self) _ _ (c .before .before .start-refusal .ensures) (c .before .if1 .taken))
+
+asking-requires : tie.Need-asking-requires
+asking-requires c κs = search needs
+
+carried-out-requires : tie.Need-carried-out-requires
+carried-out-requires c κs = search needs
+
+returns-2 : tie.Need-returns-2
+unfolding answer
+returns-2 c = rw (c .carried-out .ensures, c .before .asking .ensures) (start-made (c .before .before .before .before .args .self) _ _ (c .before .before .before .start-refusal .ensures) (c .before .before .if1 .left))
 
 pub start-discovery-spec : {M : Type 1} → statement M
-start-discovery-spec = tie.close (tie.spec discovery-started-requires starting-requires returns)
+start-discovery-spec = tie.close (tie.spec start-refusal-requires refuse-requires returns asking-requires carried-out-requires returns-2)

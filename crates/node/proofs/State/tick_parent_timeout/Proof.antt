@@ -1,24 +1,34 @@
 -- `State::tick_parent_timeout` meets its contract. Assumes nothing.
-use Rattle.node.specs.Looks.{moved, potentialCleared, finish}
-use Rattle.node.specs.Refusals.{otherOrRefusal}
-use Rattle.node.specs.Calls.{tick}
+use mathlib.Core.Path.{sym, _∙_}
+use Rattle.lists.proofs.Conditions.{pick-true, pick-false}
+use Rattle.node.specs.Refusals.{bad}
+use Rattle.node.specs.Calls.{answer}
 use borrow.Author.Needs.{needs}
 use Rattle.node.proofs.State.tick_parent_timeout.Statement.{statement}
 use Rattle.node.proofs.State.tick_parent_timeout.Tie as tie
 
-parent-requires : tie.Need-parent-requires
-parent-requires c κs = search needs
+is-bad-requires : tie.Need-is-bad-requires
+is-bad-requires c κs = search needs
+
+refuse-requires : tie.Need-refuse-requires
+refuse-requires c κs = search needs
+
+returns : tie.Need-returns
+unfolding answer
+returns c = c .refuse .ensures ∙ pick-true (bad (c .before .before .before .args .self)) _ _ (sym (c .before .before .is-bad .ensures) ∙ c .before .if1 .taken)
+
+parent-seen-requires : tie.Need-parent-seen-requires
+parent-seen-requires c κs = search needs
 
 ticked-requires : tie.Need-ticked-requires
 ticked-requires c κs = search needs
 
-always-requires : tie.Need-always-requires
-always-requires c κs = search needs
+carried-out-requires : tie.Need-carried-out-requires
+carried-out-requires c κs = search needs
 
-returns : tie.Need-returns
-unfolding tick otherOrRefusal finish moved potentialCleared
-returns c = rw (c .always .ensures, c .before .ticked .ensures, c .before .before .parent .ensures)
+returns-2 : tie.Need-returns-2
+unfolding answer
+returns-2 c = rw (c .carried-out .ensures, c .before .ticked .ensures, c .before .before .parent-seen .ensures) (pick-false (bad (c .before .before .before .before .before .args .self)) _ _ (sym (c .before .before .before .before .is-bad .ensures) ∙ c .before .before .before .if1 .left))
 
 pub tick-parent-timeout-spec : {M : Type 1} → statement M
-tick-parent-timeout-spec =
-    tie.close (tie.spec parent-requires ticked-requires always-requires returns)
+tick-parent-timeout-spec = tie.close (tie.spec is-bad-requires refuse-requires returns parent-seen-requires ticked-requires carried-out-requires returns-2)

@@ -1,35 +1,16 @@
 -- `State::written` meets its contract. Assumes nothing.
-use mathlib.Core.Path.{sym, _∙_}
-use Rattle.node.proofs.Closing.{written-is, unwritten-is}
 use borrow.Author.Needs.{needs}
 use Rattle.node.proofs.State.written.Statement.{statement}
 use Rattle.node.proofs.State.written.Tie as tie
 
-writes-requires : tie.Need-writes-requires
-writes-requires c κs = search needs
+potential-cleared-requires : tie.Need-potential-cleared-requires
+potential-cleared-requires c κs = search needs
 
-tables-requires : tie.Need-tables-requires
-tables-requires c κs = search needs
-
-written-requires : tie.Need-written-requires
-written-requires c κs = search needs
-
-with-tables-requires : tie.Need-with-tables-requires
-with-tables-requires c κs = search needs
+moved-requires : tie.Need-moved-requires
+moved-requires c κs = search needs
 
 returns : tie.Need-returns
-returns c = let a = c .before .before .before .before .before .args in rw (c .with-tables .ensures, c .before .written .ensures, c .before .before .tables .ensures) (written-is (a .candidate) (a .clear) (a .self))
-
-returns-2 : tie.Need-returns-2
-returns-2 c = let a = c .before .before .args in unwritten-is (a .clear) (a .candidate) (a .self) (sym (c .before .writes .ensures) ∙ c .if1 .left)
+returns c = rw (c .moved .ensures, c .before .potential-cleared .ensures)
 
 pub written-spec : {M : Type 1} → statement M
-written-spec =
-    tie.close
-    (tie.spec
-    writes-requires
-    tables-requires
-    written-requires
-    with-tables-requires
-    returns
-    returns-2)
+written-spec = tie.close (tie.spec potential-cleared-requires moved-requires returns)

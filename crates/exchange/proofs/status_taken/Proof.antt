@@ -1,0 +1,21 @@
+-- `status_taken` meets its contract. Assumes nothing.
+use borrow.Author.Needs.{needs}
+use Rattle.exchange.proofs.status_taken.Statement.{statement}
+use Rattle.exchange.proofs.status_taken.Tie as tie
+
+with-status-indication-requires : tie.Need-with-status-indication-requires
+with-status-indication-requires c κs = search needs
+
+with-signals-requires : tie.Need-with-signals-requires
+with-signals-requires c κs = search needs
+
+telling-requires : tie.Need-telling-requires
+telling-requires c κs = search needs
+
+returns : tie.Need-returns
+returns c = rw (c .telling .ensures, c .before .with-signals .ensures, c .before .before .with-status-indication .ensures)
+
+pub status-taken-spec : {M : Type 1} → statement M
+status-taken-spec =
+    tie.close
+    (tie.spec with-status-indication-requires with-signals-requires telling-requires returns)

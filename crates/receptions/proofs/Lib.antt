@@ -1,2 +1,0 @@
--- The laws of `receptions`.
-pub mod Phases

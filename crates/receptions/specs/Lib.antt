@@ -1,2 +1,0 @@
--- The definitions of `receptions`.
-pub mod Receptions

@@ -1,2 +1,0 @@
--- The definitions of `scans`.
-pub mod Scans

@@ -1,2 +1,0 @@
--- The laws of `starts`.
-pub mod Phases

@@ -1,2 +1,0 @@
--- The definitions of `starts`.
-pub mod Starts

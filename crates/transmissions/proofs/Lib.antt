@@ -1,2 +1,0 @@
--- The laws of `transmissions`.
-pub mod Phases
