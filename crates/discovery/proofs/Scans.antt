@@ -9,7 +9,7 @@ use lib.Dec.{ltb, eqb}
 use lib.ListN.{length, take, getD, set, length-append}
 use lib.Seq.{set-getD, take-all, take-append-le, length-take-le}
 use Rattle.lists.specs.Lists.{select}
-use Rattle.lists.proofs.Collect.{flatMap-next, select-flatMap, length-flatMap}
+use Rattle.lists.proofs.Collect.{flatMap-next, select-flatMap}
 use Rattle.nib.specs.Neighbors.{blank, tableOf, pushed}
 use Rattle.nib.specs.declared.Neighbor.{Neighbor}
 use Rattle.nib.specs.declared.Neighbor.the-variants.{Absent, Entry}
@@ -19,7 +19,7 @@ use Rattle.nib.proofs.Tables.{push-of}
 use Rattle.mlme.specs.declared.Address.{Address}
 use Rattle.mlme.specs.declared.Address.the-variants.{Short, Extended}
 use Rattle.mlme.specs.declared.PanDescriptor.{PanDescriptor}
-use Rattle.discovery.specs.Discovery.{entryOf, neighborBy, neighborOf, present, neighborsOf, isShort, shortAddressed, beaconOf}
+use Rattle.discovery.specs.Discovery.{entryOf, neighborBy, neighborOf, present, neighborsOf, shortAddressed}
 
 -- what a read past the end of the descriptors gives
 abbrev pub noDescriptor : PanDescriptor
@@ -41,31 +41,29 @@ pub neighbors-next : (ds : List PanDescriptor) (i : ℕ) (d : PanDescriptor) →
 unfolding neighborsOf
 neighbors-next = flatMap-next entriesFrom
 
--- as many entries as short-addressed descriptors
-pub neighbors-many : (ds : List PanDescriptor) → length (neighborsOf ds) ≡ shortAddressed ds
-unfolding neighborsOf present neighborBy
-neighbors-many ds = length-flatMap entriesFrom (λ d. isShort (d .«coord_address»)) (λ d. one d (d .«coord_address»)) ds
-  where
-    one : (d : PanDescriptor) (a : Address) → length (present (neighborBy d a)) ≡ cond (isShort a) 1 0
-    one d (Short p a) = refl
-    one d (Extended p a) = refl
+pub present-one : (x : Neighbor) → length (present x) ≤ 1
+unfolding present
+present-one Absent = omega arith
+present-one (Entry e) = omega arith
 
 -- with at most 16 short-addressed descriptors no entry is left out of the table
 pub neighbors-all : (ds : List PanDescriptor) → shortAddressed ds ≤ 16 → take 16 (neighborsOf ds) ≡ neighborsOf ds
-neighbors-all ds h = take-all 16 (neighborsOf ds) (omega (arith, neighbors-many ds))
+neighbors-all ds h = take-all 16 (neighborsOf ds) h
 
 -- the entries of a network are those made from its beacons, in order
-pub network-neighbors : (n : ℕ) (ds : List PanDescriptor) → select (λ e. eqb (e .«extended_pan_id» .0) n) (neighborsOf ds) ≡ neighborsOf (select (beaconOf n) ds)
+pub network-neighbors : (n : ℕ) (ds : List PanDescriptor)
+    → select (λ e. eqb (e .«extended_pan_id» .0) n) (neighborsOf ds) ≡ neighborsOf (select (λ d. eqb (d .«zigbee_beacon» .«extended_pan_id» .0) n) ds)
 unfolding neighborsOf present neighborBy entryOf
-network-neighbors n ds = select-flatMap entriesFrom (beaconOf n) (λ e. eqb (e .«extended_pan_id» .0) n) (λ d. own d (d .«coord_address»)) ds
+network-neighbors n ds = select-flatMap entriesFrom (λ d. eqb (d .«zigbee_beacon» .«extended_pan_id» .0) n) (λ e. eqb (e .«extended_pan_id» .0) n) (λ d. own d (d .«coord_address»)) ds
   where
     none : (b : Bool) → _≡_ {A = List NwkNeighbor} [] (cond b [] [])
     none true = refl
     none false = refl
 
-    own : (d : PanDescriptor) (a : Address) → select (λ e. eqb (e .«extended_pan_id» .0) n) (present (neighborBy d a)) ≡ cond (beaconOf n d) (present (neighborBy d a)) []
+    own : (d : PanDescriptor) (a : Address)
+        → select (λ e. eqb (e .«extended_pan_id» .0) n) (present (neighborBy d a)) ≡ cond (eqb (d .«zigbee_beacon» .«extended_pan_id» .0) n) (present (neighborBy d a)) []
     own d (Short p a) = refl
-    own d (Extended p a) = none (beaconOf n d)
+    own d (Extended p a) = none (eqb (d .«zigbee_beacon» .«extended_pan_id» .0) n)
 
 -- what is written at the place for one entry more
 abbrev placed : Neighbor → ℕ → NwkNeighbor → NwkNeighbor

@@ -1,10 +1,10 @@
 -- The neighbour entries and the confirm that a discovery makes from a scan's descriptors (01, "Neighbour entry"; Zigbee 3.2.2.3 and 3.2.2.4).
 use Prim.Native.Nat.{ℕ}
-use mathlib.Core.Bool.{Bool, true, false, cond, _||_}
+use mathlib.Core.Bool.{false, cond, _||_}
 use mathlib.Core.List.{List, [], _∷_, flatMap}
 use lib.Dec.{eqb}
 use lib.ListN.{length, replicate}
-use Rattle.lists.specs.Lists.{over, select}
+use Rattle.lists.specs.Lists.{over}
 use Rattle.nib.specs.Identifiers.{bit}
 use Rattle.nib.specs.Neighbors.{NONE, deviceType}
 use Rattle.nib.specs.declared.Neighbor.{Neighbor}
@@ -62,18 +62,9 @@ present (Neighbor.Entry e) = e ∷ []
 unfoldable pub neighborsOf : List PanDescriptor → List NwkNeighbor
 neighborsOf ds = flatMap (λ d. present (neighborOf d)) ds
 
--- whether an address is a short one
-abbrev pub isShort : Address → Bool
-isShort (Address.Short pan address) = true
-isShort (Address.Extended pan address) = false
-
--- how many descriptors are short-addressed (01, "When a call is turned down")
+-- how many descriptors are short-addressed (01, "When a call is turned down"): each of them gives one entry
 abbrev pub shortAddressed : List PanDescriptor → ℕ
-shortAddressed ds = length (select (λ d. isShort (d .«coord_address»)) ds)
-
--- "its beacons" (01, "Two nodes"): the scan's descriptors with the network's extended PAN id n
-abbrev pub beaconOf : ℕ → PanDescriptor → Bool
-beaconOf n d = eqb (d .«zigbee_beacon» .«extended_pan_id» .0) n
+shortAddressed ds = length (neighborsOf ds)
 
 -- what the confirm tells of a descriptor, short-addressed or not ("others are dropped from the table but stay in the confirm"; Zigbee Table 3-12)
 abbrev pub networkDescriptor : PanDescriptor → NetworkDescriptor

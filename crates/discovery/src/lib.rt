@@ -14,7 +14,6 @@ ghost use Rattle.discovery.specs.Discovery.{
   present,
   neighborsOf,
   shortAddressed,
-  isShort,
   networkDescriptor,
   blankDescriptor,
   confirmOf,
@@ -147,10 +146,11 @@ fn in_use(list: PanDescriptorList) -> u8
     if count <= 27 { count as u8 } else { 27 }
 }
 
-// 1 for a short address, else 0.
-fn one_if_short(address: Address) -> usize
-    ensures { λ r. ⌜ r ≡ cond (isShort address) 1 0 ⌝ }
+// 1 for a short-addressed descriptor, else 0.
+fn one_if_short(pd: PanDescriptor) -> usize
+    ensures { λ r. ⌜ r ≡ length (present (neighborOf pd)) ⌝ }
 {
+    let address = pd.coord_address;
     match address {
         Address::Short(_, _) => 1,
         Address::Extended(_, _) => 0,
@@ -167,8 +167,7 @@ pub fn short_addressed(list: PanDescriptorList) -> usize
     while i < n {
         let at = i as usize;
         let pd = list.descriptors[at];
-        let address = pd.coord_address;
-        found += one_if_short(address);
+        found += one_if_short(pd);
         i += 1;
     }
     found

@@ -1,7 +1,7 @@
 -- The association (01, "Join request and confirm"; Zigbee 3.2.2.13 and 3.6.1.4.1.1). The candidate being tried and the next one are entries, seen with the IEEE
 -- address known of their short address; `Absent` where there is none.
 use Prim.Native.Nat.{ℕ}
-use mathlib.Core.Bool.{Bool, false, cond, _||_}
+use mathlib.Core.Bool.{Bool, true, false, cond}
 use lib.Dec.{eqb}
 use Rattle.nib.specs.declared.NwkNeighbor.{NwkNeighbor}
 use Rattle.nib.specs.declared.Neighbor.{Neighbor}
@@ -53,8 +53,8 @@ associateRequest e c =
       capabilities = macCapabilities (c .nlme .nib .«capability_information» .0);
     }
 
-unfoldable pub associating : Bool → NwkNeighbor → Control → Decision
-associating clear e c = clearing clear (decided Move.TakeNext Note.NoNote (Step.Ask (RadioRequest.Associate (associateRequest e c))) (inPhase Phase.Association c))
+unfoldable pub associating : NwkNeighbor → Control → Decision
+associating e c = decided Move.TakeNext Note.NoNote (Step.Ask (RadioRequest.Associate (associateRequest e c))) (inPhase Phase.Association c)
 
 -- the start: parent information, timeout index and timer are reset; "No candidate: NotPermitted. Then capabilities are stored and candidates tried in order"
 abbrev pub resetNegotiation : Control → Control
@@ -65,7 +65,7 @@ storeCapabilities i c = withNlme (withNib (withCapabilities i (c .nlme .nib)) (c
 
 unfoldable pub joinStarted : CapabilityInformation → Neighbor → Control → Decision
 joinStarted i Neighbor.Absent c = failing NlmeJoinStatus.NotPermitted (resetNegotiation c)
-joinStarted i (Neighbor.Entry e) c = associating false e (storeCapabilities i (resetNegotiation c))
+joinStarted i (Neighbor.Entry e) c = associating e (storeCapabilities i (resetNegotiation c))
 
 -- the status of an association or rejoin response that is not 0, success (IEEE 802.15.4, association response): 1 at capacity, 2 access denied; "any other, or a radio error, MacError"
 unfoldable pub failedStatus : ℕ → NlmeJoinStatus
@@ -87,24 +87,27 @@ joinedConfirm r e =
 unfoldable pub joinedBy : AssociationResponse → NwkNeighbor → Control → Decision
 joinedBy r e c = decided Move.JoinTried Note.NoNote (Step.Joined (joinedConfirm r e)) (inPhase Phase.Idle (joinedControl r e c))
 
--- a candidate has failed: the next one is tried, or "The last candidate's status stands". "Status 1 and 2 clear potential parent"
-unfoldable pub failingOn : Bool → NlmeJoinStatus → Control → Decision
-failingOn clear st c = clearing clear (failing st c)
+-- "Status 1 and 2 clear potential parent", by what they give
+abbrev pub clears : NlmeJoinStatus → Bool
+clears NlmeJoinStatus.PanAtCapacity = true
+clears NlmeJoinStatus.PanAccessDenied = true
+clears NlmeJoinStatus.Success = false
+clears NlmeJoinStatus.InvalidRequest = false
+clears NlmeJoinStatus.NotPermitted = false
+clears NlmeJoinStatus.NoNetworks = false
+clears NlmeJoinStatus.MacError = false
 
-unfoldable pub candidateFailed : Bool → NlmeJoinStatus → Neighbor → Control → Decision
-candidateFailed clear st Neighbor.Absent c = failingOn clear st c
-candidateFailed clear st (Neighbor.Entry e) c = associating clear e c
+-- a candidate has failed: the next one is tried, or "The last candidate's status stands"
+unfoldable pub candidateFailed : NlmeJoinStatus → Neighbor → Control → Decision
+candidateFailed st Neighbor.Absent c = clearing (clears st) (failing st c)
+candidateFailed st (Neighbor.Entry e) c = clearing (clears st) (associating e c)
 
 -- a success with no candidate being tried, which no run of calls leads to, counts as a radio error
 unfoldable pub succeeded : AssociationResponse → Neighbor → Neighbor → Control → Decision
-succeeded r Neighbor.Absent next c = candidateFailed false NlmeJoinStatus.MacError next c
+succeeded r Neighbor.Absent next c = candidateFailed NlmeJoinStatus.MacError next c
 succeeded r (Neighbor.Entry e) next c = joinedBy r e c
 
--- "Status 1 and 2 clear potential parent"
-abbrev pub clears : ℕ → Bool
-clears s = eqb s 1 || eqb s 2
-
 unfoldable pub associated : AssociationOutcome → Neighbor → Neighbor → Control → Decision
-associated AssociationOutcome.AssociationFailed tried next c = candidateFailed false NlmeJoinStatus.MacError next c
+associated AssociationOutcome.AssociationFailed tried next c = candidateFailed NlmeJoinStatus.MacError next c
 associated (AssociationOutcome.Associated r) tried next c =
-    cond (eqb (r .status) 0) (succeeded r tried next c) (candidateFailed (clears (r .status)) (failedStatus (r .status)) next c)
+    cond (eqb (r .status) 0) (succeeded r tried next c) (candidateFailed (failedStatus (r .status)) next c)

@@ -4,7 +4,7 @@ ghost use Rattle.nlme.specs.Fields.{withNib};
 ghost use Rattle.operation.specs.Operation.{withNlme, inPhase, decided};
 ghost use Rattle.operation.specs.declared.RadioRequest.the-variants.{Associate};
 ghost use Rattle.operation.specs.declared.Note.the-variants.{NoNote};
-ghost use Rattle.join.specs.Join.{failure, failing, clearing, associateRequest, associating, resetNegotiation, storeCapabilities, joinStarted, failedStatus, joinedControl, joinedConfirm, joinedBy, failingOn, candidateFailed, succeeded, clears, associated};
+ghost use Rattle.join.specs.Join.{failure, failing, clearing, associateRequest, associating, resetNegotiation, storeCapabilities, joinStarted, failedStatus, joinedControl, joinedConfirm, joinedBy, clears, candidateFailed, succeeded, associated};
 use management::NlmeJoinConfirm;
 use management::NlmeJoinStatus;
 use nib::CapabilityInformation;
@@ -66,7 +66,7 @@ fn moving(clear: bool, candidate: Move, step: Step, phase: Phase, mut control: C
 
 // The join or rejoin ends without success.
 fn failing_on(clear: bool, status: NlmeJoinStatus, control: Control) -> Decision
-    ensures { λ r. ⌜ r ≡ failingOn clear status control ⌝ }
+    ensures { λ r. ⌜ r ≡ clearing clear (failing status control) ⌝ }
 {
     let step = Step::Joined(join_failure(status));
     moving(clear, Move::Stay, step, Phase::Idle, control)
@@ -95,7 +95,7 @@ fn associate_request(entry: NwkNeighbor, control: Control) -> RadioRequest
 }
 
 fn associate(clear: bool, entry: NwkNeighbor, control: Control) -> Decision
-    ensures { λ r. ⌜ r ≡ associating clear entry control ⌝ }
+    ensures { λ r. ⌜ r ≡ clearing clear (associating entry control) ⌝ }
 {
     let step = Step::Ask(associate_request(entry, control));
     moving(clear, Move::TakeNext, step, Phase::Association, control)
@@ -195,15 +195,26 @@ fn joined_by(response: AssociationResponse, entry: NwkNeighbor, mut control: Con
     moving(false, Move::JoinTried, step, Phase::Idle, control)
 }
 
-// A candidate has failed: the next one is tried, or its status stands.
-fn candidate_failed(
-    clear: bool,
-    status: NlmeJoinStatus,
-    next: Neighbor,
-    control: Control,
-) -> Decision
-    ensures { λ r. ⌜ r ≡ candidateFailed clear status next control ⌝ }
+// Whether a candidate that has failed with a status is no longer a potential parent.
+fn clears(status: NlmeJoinStatus) -> bool
+    ensures { λ r. ⌜ r ≡ clears status ⌝ }
 {
+    match status {
+        NlmeJoinStatus::PanAtCapacity => true,
+        NlmeJoinStatus::PanAccessDenied => true,
+        NlmeJoinStatus::Success => false,
+        NlmeJoinStatus::InvalidRequest => false,
+        NlmeJoinStatus::NotPermitted => false,
+        NlmeJoinStatus::NoNetworks => false,
+        NlmeJoinStatus::MacError => false,
+    }
+}
+
+// A candidate has failed: the next one is tried, or its status stands.
+fn candidate_failed(status: NlmeJoinStatus, next: Neighbor, control: Control) -> Decision
+    ensures { λ r. ⌜ r ≡ candidateFailed status next control ⌝ }
+{
+    let clear = clears(status);
     match next {
         Neighbor::Absent => return failing_on(clear, status, control),
         Neighbor::Entry(e) => return associate(clear, e, control),
@@ -220,16 +231,9 @@ fn succeeded(
     ensures { λ r. ⌜ r ≡ succeeded response tried next control ⌝ }
 {
     match tried {
-        Neighbor::Absent => return candidate_failed(false, NlmeJoinStatus::MacError, next, control),
+        Neighbor::Absent => return candidate_failed(NlmeJoinStatus::MacError, next, control),
         Neighbor::Entry(e) => return joined_by(response, e, control),
     }
-}
-
-// Whether a status says that a candidate is no potential parent.
-fn clears(status: u8) -> bool
-    ensures { λ r. ⌜ r ≡ clears status ⌝ }
-{
-    status == 1 || status == 2
 }
 
 // The outcome of an association.
@@ -243,14 +247,14 @@ pub fn association_over(
 {
     match outcome {
         AssociationOutcome::AssociationFailed => {
-            return candidate_failed(false, NlmeJoinStatus::MacError, next, control);
+            return candidate_failed(NlmeJoinStatus::MacError, next, control);
         }
         AssociationOutcome::Associated(response) => {
             let status = response.status;
             if status == 0 {
                 return succeeded(response, tried, next, control);
             }
-            return candidate_failed(clears(status), failed_status(status), next, control);
+            return candidate_failed(failed_status(status), next, control);
         }
     }
 }

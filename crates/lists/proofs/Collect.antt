@@ -4,19 +4,10 @@ use mathlib.Core.Path.{_≡_, refl, sym, ap, _∙_}
 use mathlib.Core.Bool.{Bool, true, false, cond}
 use mathlib.Core.List.{List, [], _∷_, _++_, map, map-append, flatMap, append-assoc, append-nil}
 use native.Mathlib.Omega.{arith}
-use lib.ListN.{length, take, getD, set, length-append, length-map}
+use lib.ListN.{length, take, getD, set, length-map}
 use lib.Seq.{length-take-le}
 use Rattle.lists.specs.Lists.{over, select}
 use Rattle.lists.proofs.Lists.{take-next, over-snoc, select-append}
-
-module _ {A : Type 0} where
-  -- how many pass a test, with one element more
-  pub select-next : (p : A → Bool) (l : List A) (i : ℕ) (d : A) → i < length l → length (select p (take (i + 1) l)) ≡ length (select p (take i l)) + cond (p (getD l i d)) 1 0
-  select-next p l i d h = rw (take-next l i d h, select-append, length-append) (ap (λ (n : ℕ). length (select p (take i l)) + n) (one (p (getD l i d))))
-    where
-      one : (b : Bool) → length (cond b (getD l i d ∷ []) []) ≡ cond b 1 0
-      one true = refl
-      one false = refl
 
 module _ {A B : Type 0} (f : A → List B) where
   pub flatMap-append : (l k : List A) → flatMap f (l ++ k) ≡ flatMap f l ++ flatMap f k
@@ -38,16 +29,6 @@ module _ {A B : Type 0} (f : A → List B) where
       go : (b : Bool) → select q (f x) ≡ cond b (f x) [] → select q (flatMap f xs) ≡ flatMap f (select p xs) → select q (f x) ++ select q (flatMap f xs) ≡ flatMap f (cond b (x ∷ select p xs) (select p xs))
       go true e h = rw (e, h)
       go false e h = rw (e, h)
-
-  -- where one is given for each element that passes a test, and none for another
-  pub length-flatMap : (p : A → Bool) → ((x : A) → length (f x) ≡ cond (p x) 1 0) → (l : List A) → length (flatMap f l) ≡ length (select p l)
-  unfolding flatMap
-  length-flatMap p one [] = refl
-  length-flatMap p one (x ∷ xs) = length-append (f x) (flatMap f xs) ∙ go (p x) (one x) (length-flatMap p one xs)
-    where
-      go : (b : Bool) {n : ℕ} → length (f x) ≡ cond b 1 0 → n ≡ length (select p xs) → length (f x) + n ≡ length (cond b (x ∷ select p xs) (select p xs))
-      go true e h = omega arith
-      go false e h = omega arith
 
 module _ {A B : Type 0} (f : A → B) where
   -- one image more, over the front of a base

@@ -9,7 +9,8 @@ use borrow.Author.Tests.{lt-ltb}
 use lib.Dec.{ltb}
 use lib.ListN.{length, drop, getD, set, length-set}
 use lib.Seq.{set-append-left}
-use Rattle.lists.specs.Lists.{over, firstIndex, some, changeAt, removeFirst, removeAt}
+use Rattle.lists.specs.Lists.{over, firstIndex, some, changeAt, removeFirst}
+use Rattle.lists.specs.Steps.{removeAt}
 
 module _ {A : Type 0} where
   -- one passes exactly if the place is within the list

@@ -25,11 +25,6 @@ module _ {A : Type 0} where
   abbrev pub sortBy : (A → ℕ) → List A → List A
   sortBy k l = foldl (λ acc x. insertBy k x acc) [] l
 
-  -- how many elements stand before the first with a key greater than d
-  abbrev pub placeBy : (A → ℕ) → ℕ → List A → ℕ
-  placeBy k d [] = 0
-  placeBy k d (y ∷ ys) = cond (ltb d (k y)) 0 (suc (placeBy k d ys))
-
   -- a list written over the front of another
   abbrev pub over : List A → List A → List A
   over base l = l ++ drop (length l) base
@@ -38,10 +33,6 @@ module _ {A : Type 0} where
   abbrev pub All : (A → Type 0) → List A → Type 0
   All P [] = Unit {0}
   All P (x ∷ xs) = P x × All P xs
-
-  -- x put into a list at place p
-  abbrev pub insertAt : ℕ → A → List A → List A
-  insertAt p x l = take p l ++ (x ∷ drop p l)
 
   -- how many elements stand before the first that passes a test: its index, or the length where none passes
   abbrev pub firstIndex : (A → Bool) → List A → ℕ
@@ -72,12 +63,6 @@ module _ {A : Type 0} where
   abbrev pub removeFirst : (A → Bool) → List A → List A
   removeFirst p [] = []
   removeFirst p (x ∷ xs) = cond (p x) xs (x ∷ removeFirst p xs)
-
-  -- the element at place k is left out
-  abbrev pub removeAt : ℕ → List A → List A
-  removeAt k [] = []
-  removeAt zero (x ∷ xs) = xs
-  removeAt (suc k) (x ∷ xs) = x ∷ removeAt k xs
 
   -- whether every element passes a test
   abbrev pub every : (A → Bool) → List A → Bool

@@ -3,7 +3,7 @@ ghost use mathlib.Core.Path.{_≡_};
 ghost use mathlib.Core.Bool.{cond};
 ghost use lib.Dec.{eqb};
 ghost use Rattle.nlme.specs.Nlme.{timeoutRequested};
-ghost use Rattle.operation.specs.Operation.{withNlme, withPollsLeft, ending, pollOn};
+ghost use Rattle.operation.specs.Operation.{withNlme, ending, pollOn};
 ghost use Rattle.exchange.specs.Exchange.{timeoutFailed, accepted, noTimeoutResponse, requesting, timeoutStarted, timeoutGoesOn, timeoutRequestSent};
 use management::KeepaliveAnswer;
 use management::NegotiationAnswer;
@@ -112,25 +112,23 @@ pub fn timeout_started(control: Control, purpose: TimeoutFor, parent: Neighbor) 
     }
 }
 
-// No response came in the polls, or there is no parent to poll for those left.
-fn timeout_unanswered(control: Control, purpose: TimeoutFor, parent: Neighbor) -> Decision
-    ensures { λ r. ⌜ r ≡ timeoutFailed NegotiationAnswer.NotNegotiated purpose parent (withPollsLeft 0 control) ⌝ }
-{
-    let none_left = operation::with_polls(control, 0);
-    timeout_failed(none_left, NegotiationAnswer::NotNegotiated, purpose, parent)
-}
-
 // Without a timeout response the polls go on while any is left.
 fn timeout_missing(control: Control, purpose: TimeoutFor, parent: Neighbor) -> Decision
     ensures { λ r. ⌜ r ≡ pollOn (Purpose.TimeoutResponse purpose) parent (timeoutFailed NegotiationAnswer.NotNegotiated purpose parent) control ⌝ }
 {
-    match parent {
-        Neighbor::Absent => return timeout_unanswered(control, purpose, parent),
+    let polling = operation::poll_on(parent, control);
+    let asked = polling.parent;
+    match asked {
+        Neighbor::Absent => {
+            return timeout_failed(
+                polling.control,
+                NegotiationAnswer::NotNegotiated,
+                purpose,
+                parent,
+            );
+        }
         Neighbor::Entry(p) => {
-            if control.operation.polls_left == 0 {
-                return timeout_unanswered(control, purpose, parent);
-            }
-            return operation::poll_counted(Purpose::TimeoutResponse(purpose), p, control);
+            return operation::poll(Purpose::TimeoutResponse(purpose), p, polling.control);
         }
     }
 }

@@ -1,11 +1,9 @@
 // What calls read in the neighbour table and what they write to it.
 ghost use mathlib.Core.Path.{_≡_};
-ghost use mathlib.Core.Bool.{cond};
 ghost use mathlib.Core.List.{map};
 ghost use Rattle.lists.specs.Lists.{firstIndex, changeAt};
-ghost use Rattle.nib.specs.declared.Neighbor.the-variants.{Entry};
-ghost use Rattle.nib.specs.Neighbors.{entriesOf, tableOf};
-ghost use Rattle.neighbor_table.specs.NeighborTable.{hasAddress, isParent, found, knownIeee, withIeee, ieeeNumber, seenIn, parentOf, ieeeOf, onEntries, learnt, marked, adopted, allCleared, potentialClearedAt, retained};
+ghost use Rattle.nib.specs.Neighbors.{entriesOf, entryAt, tableOf};
+ghost use Rattle.neighbor_table.specs.NeighborTable.{hasAddress, isParent, knownIeee, seenIn, ieeeOf, onEntries, learnt, marked, adopted, allCleared, potentialClearedAt, retained};
 ghost use Rattle.neighbor_table.specs.Steps.{changed};
 use nib::ExtendedPanId;
 use nib::IeeeAddress;
@@ -32,45 +30,20 @@ fn first(table: NeighborTable, address: ShortAddress) -> u8
     count
 }
 
-// Whether an entry has relationship PARENT, or else a short address.
-fn is_wanted(e: NwkNeighbor, parent: bool, address: ShortAddress) -> bool
-    ensures { λ r. ⌜ r ≡ cond parent (isParent e) (hasAddress (address .0) e) ⌝ }
-{
-    if parent {
-        return e.relationship == nib::relationship::PARENT;
-    }
-    e.network_address.0 == address.0
-}
-
-// The parent, or else the first entry with a short address.
-fn look_for(table: NeighborTable, parent: bool, address: ShortAddress) -> Neighbor
-    ensures { λ r. ⌜ r ≡ cond parent (parentOf (entriesOf table)) (found (address .0) (entriesOf table)) ⌝ }
+// The index of the parent, the first entry with relationship PARENT, or the number of entries where there is none.
+pub fn parent_index(table: NeighborTable) -> u8
+    ensures { λ r. ⌜ r ≡ firstIndex isParent (entriesOf table) ⌝ }
 {
     let count = table.len();
     let mut i = 0;
     while i < count {
         let at = i as usize;
-        let e = table.entries[at];
-        if is_wanted(e, parent, address) {
-            return Neighbor::Entry(e);
+        if table.entries[at].relationship == nib::relationship::PARENT {
+            return i;
         }
         i += 1;
     }
-    Neighbor::Absent
-}
-
-// The first entry with a short address.
-fn find(table: NeighborTable, address: ShortAddress) -> Neighbor
-    ensures { λ r. ⌜ r ≡ found (address .0) (entriesOf table) ⌝ }
-{
-    look_for(table, false, address)
-}
-
-// The parent: the first entry with relationship PARENT.
-pub fn parent(table: NeighborTable) -> Neighbor
-    ensures { λ r. ⌜ r ≡ parentOf (entriesOf table) ⌝ }
-{
-    look_for(table, true, ShortAddress(0))
+    count
 }
 
 // The IEEE address of a neighbour, where it is known.
@@ -93,37 +66,8 @@ pub fn known_ieee(neighbor: Neighbor) -> OptionalIeee
 pub fn neighbor_ieee_address(table: NeighborTable, address: ShortAddress) -> OptionalIeee
     ensures { λ r. ⌜ r ≡ ieeeOf (address .0) (entriesOf table) ⌝ }
 {
-    known_ieee(find(table, address))
-}
-
-// An entry with the IEEE address of another, or 0 where there is no other.
-fn addressed_by(mut e: NwkNeighbor, other: Neighbor) -> Neighbor
-    ensures { λ r. ⌜ r ≡ Entry (withIeee (ieeeNumber other) e) ⌝ }
-{
-    match other {
-        Neighbor::Absent => {
-            let none = IeeeAddress(0);
-            e.extended_address = none;
-            return Neighbor::Entry(e);
-        }
-        Neighbor::Entry(o) => {
-            let known = o.extended_address;
-            e.extended_address = known;
-            return Neighbor::Entry(e);
-        }
-    }
-}
-
-// A neighbour as commands are addressed to it: with the IEEE address of the first entry with its short address.
-pub fn seen(table: NeighborTable, neighbor: Neighbor) -> Neighbor
-    ensures { λ r. ⌜ r ≡ seenIn (entriesOf table) neighbor ⌝ }
-{
-    match neighbor {
-        Neighbor::Absent => return Neighbor::Absent,
-        Neighbor::Entry(e) => {
-            return addressed_by(e, find(table, e.network_address));
-        }
-    }
+    let index = first(table, address);
+    known_ieee(table.get(index))
 }
 
 // A change of an entry.
@@ -165,6 +109,29 @@ fn change_entry(mut e: NwkNeighbor, change: Change) -> NwkNeighbor
             return e;
         }
     }
+}
+
+// The entry at an index as commands are addressed to it: with the IEEE address of the first entry with its short address.
+pub fn seen_at(table: NeighborTable, index: u8) -> Neighbor
+    ensures { λ r. ⌜ r ≡ seenIn (entriesOf table) (entryAt (entriesOf table) index) ⌝ }
+{
+    let count = table.len();
+    if count <= index {
+        return Neighbor::Absent;
+    }
+    let at = index as usize;
+    let e = table.entries[at];
+    let mut i = 0;
+    while i < index {
+        let earlier = i as usize;
+        let other = table.entries[earlier];
+        if other.network_address.0 == e.network_address.0 {
+            let ieee = other.extended_address;
+            return Neighbor::Entry(change_entry(e, Change::ExtendedAddress(ieee)));
+        }
+        i += 1;
+    }
+    Neighbor::Entry(e)
 }
 
 // The table with the entry at an index changed, or as it is where the index is past the entries in use.

@@ -1,5 +1,5 @@
 -- What a call looks at in a state, what a decision writes to it, and the answer that is made of both.
-use mathlib.Core.Bool.{Bool, true, false, cond}
+use mathlib.Core.Bool.{Bool, false, cond}
 use mathlib.Core.List.{List}
 use lib.ListN.{length}
 use Rattle.nib.specs.Neighbors.{entriesOf}
@@ -63,14 +63,6 @@ answered reset s d =
 
 unfoldable pub finish : Bool → State → Decision → Answer
 finish reset s d = answered reset (moved (d .candidate) (potentialCleared (d .«clear_potential_parent») s)) d
-
--- a decision that writes nothing to the table or the candidates
-abbrev pub still : Bool → Move → Bool
-still true m = false
-still false Stay = true
-still false TakeNext = false
-still false AdoptNext = false
-still false JoinTried = false
 
 -- a decision with no reset note
 abbrev pub deciding : State → Decision → Answer

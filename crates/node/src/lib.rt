@@ -2,7 +2,7 @@
 ghost use mathlib.Core.Path.{_≡_};
 ghost use mathlib.Core.Bool.{true, false, cond, not};
 ghost use Rattle.operation.specs.Operation.{isIdle, associationFor};
-ghost use Rattle.node.specs.Looks.{moved, potentialCleared, answered, finish, still};
+ghost use Rattle.node.specs.Looks.{parent, tried, next, deciding};
 ghost use Rattle.node.specs.Refusals.{refuse, pastIn, badBy, bad};
 ghost use Rattle.node.specs.Calls.{joinBy, associate, scanFailed, scanHeard, scanOver, confirmBy, scanned, continuing, goOn, changed, after, handledOn, taughtOn, processed, receptionOver, afterLeave, transmissionOver, answer, choose, discovery, join, send, poll, receive, timeout, scan, association, transmission, reception, elapsed, takeLeave, takeStatus};
 ghost use Rattle.mlme.specs.Mlme.{descriptorsOf};
@@ -156,90 +156,69 @@ impl State {
     }
 }
 
+// What a call looks at: the parent, the candidate being tried and the next one, each by its index in the table.
+impl State {
+    fn parent(self) -> Neighbor
+        ensures { λ r. ⌜ r ≡ parent self ⌝ }
+    {
+        let index = neighbor_table::parent_index(self.table);
+        neighbor_table::seen_at(self.table, index)
+    }
+
+    fn tried(self) -> Neighbor
+        ensures { λ r. ⌜ r ≡ tried self ⌝ }
+    {
+        let index = tries::tried_index(self.table.len(), self.candidates);
+        neighbor_table::seen_at(self.table, index)
+    }
+
+    fn next(self) -> Neighbor
+        ensures { λ r. ⌜ r ≡ next self ⌝ }
+    {
+        let index = tries::next_index(self.table.len(), self.candidates);
+        neighbor_table::seen_at(self.table, index)
+    }
+}
+
 // What a decision writes, and the answer.
 impl State {
-    // The candidate being tried is no longer a potential parent.
-    fn potential_cleared(mut self, clear: bool) -> State
-        ensures { λ r. ⌜ r ≡ potentialCleared clear self ⌝ }
+    // A decision is written, and its answer made.
+    fn decided_on(mut self, decision: Decision) -> Answer
+        ensures { λ r. ⌜ r ≡ deciding self decision ⌝ }
     {
-        if clear {
-            self.table = tries::clear_tried(self.table, self.candidates);
-            return self;
+        let count = self.table.len();
+        if decision.clear_potential_parent {
+            let index = tries::tried_index(count, self.candidates);
+            self.table = neighbor_table::clear_potential_parent(self.table, index);
         }
-        self
-    }
-
-    // What a decision does with the candidates.
-    fn moved(mut self, candidate: Move) -> State
-        ensures { λ r. ⌜ r ≡ moved candidate self ⌝ }
-    {
+        let candidate = decision.candidate;
         match candidate {
-            Move::Stay => return self,
+            Move::Stay => {}
             Move::TakeNext => {
-                self.candidates = tries::take_next(self.table, self.candidates);
-                return self;
+                self.candidates = tries::take_next(count, self.candidates);
             }
             Move::AdoptNext => {
-                self.table = tries::adopt_next(self.table, self.candidates);
-                self.candidates = tries::take_next(self.table, self.candidates);
-                return self;
+                let index = tries::next_index(count, self.candidates);
+                self.table = neighbor_table::adopt_parent(self.table, index);
+                self.candidates = tries::take_next(count, self.candidates);
             }
             Move::JoinTried => {
-                self.table = tries::join_tried(self.table, self.candidates);
-                return self;
+                let index = tries::tried_index(count, self.candidates);
+                self.table = neighbor_table::mark_parent(self.table, index);
+                self.table = neighbor_table::clear_beacon_fields(self.table);
             }
         }
-    }
-
-    // What a decision writes to the table and the candidates.
-    fn written(self, clear: bool, candidate: Move) -> State
-        ensures { λ r. ⌜ r ≡ moved candidate (potentialCleared clear self) ⌝ }
-    {
-        self.potential_cleared(clear).moved(candidate)
-    }
-
-    // The answer of a decision that is written but for its control part.
-    fn answered(mut self, reset: bool, decision: Decision) -> Answer
-        ensures { λ r. ⌜ r ≡ answered reset self decision ⌝ }
-    {
         let control = decision.control;
         self.control = control;
         let note = decision.note;
         let step = decision.step;
         Answer {
             state: self,
-            reset,
+            reset: false,
             note,
             step,
             polls_used: decision.polls_used,
         }
-    }
-
-    // A decision carried out.
-    fn carried_out(self, reset: bool, decision: Decision) -> Answer
-        ensures { λ r. ⌜ r ≡ finish reset self decision ⌝ }
-    {
-        let candidate = decision.candidate;
-        if is_still(decision.clear_potential_parent, candidate) {
-            return self.answered(reset, decision);
-        }
-        self.written(decision.clear_potential_parent, candidate)
-            .answered(reset, decision)
-    }
-}
-
-// Whether a decision leaves the table and the candidates as they are.
-fn is_still(clear: bool, candidate: Move) -> bool
-    ensures { λ r. ⌜ r ≡ still clear candidate ⌝ }
-{
-    if clear {
-        return false;
-    }
-    match candidate {
-        Move::Stay => return true,
-        Move::TakeNext => return false,
-        Move::AdoptNext => return false,
-        Move::JoinTried => return false,
     }
 }
 
@@ -254,7 +233,7 @@ impl State {
         }
         let request = RadioRequest::Scan(range);
         let decision = operation::asking(Phase::Scan(ScanFor::Discovery), request, self.control);
-        self.carried_out(false, decision)
+        self.decided_on(decision)
     }
 
     // An association: the candidates are chosen from the present table, and the first is tried.
@@ -262,21 +241,20 @@ impl State {
         ensures { λ r. ⌜ r ≡ associate request self ⌝ }
     {
         if self.control.nlme.nib.network_address.0 != nib::NWK_UNASSIGNED_ADDRESS {
-            return self.carried_out(
-                false,
-                join::failing(NlmeJoinStatus::InvalidRequest, self.control),
-            );
+            let decision = join::failing(NlmeJoinStatus::InvalidRequest, self.control);
+            return self.decided_on(decision);
         }
+        let require_permit_joining = true;
         self.candidates = tries::chosen(
             self.table,
             self.control.nlme.nib.stack_profile,
-            true,
+            require_permit_joining,
             request.extended_pan_id,
             request.capability_information,
         );
-        let next = tries::next(self.table, self.candidates);
+        let next = self.next();
         let decision = join::join_started(self.control, request.capability_information, next);
-        self.carried_out(false, decision)
+        self.decided_on(decision)
     }
 
     fn join_by(self, request: NlmeJoinRequest) -> Answer
@@ -286,17 +264,17 @@ impl State {
         match kind {
             RejoinNetwork::Association => return self.associate(request),
             RejoinNetwork::NwkRejoin => {
-                let parent = tries::parent_seen(self.table);
+                let parent = self.parent();
                 let decision = rejoin::rejoin_started(self.control, request, parent);
-                return self.carried_out(false, decision);
+                return self.decided_on(decision);
             }
             RejoinNetwork::Orphan => {
                 let decision = join::failing(NlmeJoinStatus::InvalidRequest, self.control);
-                return self.carried_out(false, decision);
+                return self.decided_on(decision);
             }
             RejoinNetwork::ChannelChange => {
                 let decision = join::failing(NlmeJoinStatus::InvalidRequest, self.control);
-                return self.carried_out(false, decision);
+                return self.decided_on(decision);
             }
         }
     }
@@ -318,9 +296,9 @@ impl State {
         if refusal != 0 {
             return self.refuse(refusal);
         }
-        let parent = tries::parent_seen(self.table);
+        let parent = self.parent();
         let decision = exchange::send_started(self.control, destination, secure, parent);
-        self.carried_out(false, decision)
+        self.decided_on(decision)
     }
 
     pub fn poll(self) -> Answer
@@ -330,8 +308,8 @@ impl State {
         if refusal != 0 {
             return self.refuse(refusal);
         }
-        let parent = tries::parent_seen(self.table);
-        self.carried_out(false, exchange::poll_started(self.control, parent))
+        let parent = self.parent();
+        self.decided_on(exchange::poll_started(self.control, parent))
     }
 
     pub fn receive(self) -> Answer
@@ -341,7 +319,7 @@ impl State {
         if refusal != 0 {
             return self.refuse(refusal);
         }
-        self.carried_out(false, exchange::receive_started(self.control))
+        self.decided_on(exchange::receive_started(self.control))
     }
 
     // The start of a negotiation or a keepalive.
@@ -352,9 +330,9 @@ impl State {
         if refusal != 0 {
             return self.refuse(refusal);
         }
-        let parent = tries::parent_seen(self.table);
+        let parent = self.parent();
         let decision = negotiation::timeout_started(self.control, purpose, parent);
-        self.carried_out(false, decision)
+        self.decided_on(decision)
     }
 
     pub fn negotiate_end_device_timeout(self) -> Answer
@@ -378,11 +356,11 @@ impl State {
         match purpose {
             ScanFor::Discovery => {
                 let decision = operation::ending(Step::DiscoveryFailed, self.control);
-                return self.carried_out(false, decision);
+                return self.decided_on(decision);
             }
             ScanFor::Rejoin => {
                 let decision = join::failing(NlmeJoinStatus::MacError, self.control);
-                return self.carried_out(false, decision);
+                return self.decided_on(decision);
             }
         }
     }
@@ -394,19 +372,20 @@ impl State {
         match purpose {
             ScanFor::Discovery => {
                 let decision = operation::ending(Step::Discovered, self.control);
-                return self.carried_out(false, decision);
+                return self.decided_on(decision);
             }
             ScanFor::Rejoin => {
+                let require_permit_joining = false;
                 self.candidates = tries::chosen(
                     self.table,
                     self.control.nlme.nib.stack_profile,
-                    false,
+                    require_permit_joining,
                     self.control.operation.extended_pan_id,
                     self.control.nlme.nib.capability_information,
                 );
-                let next = tries::next(self.table, self.candidates);
+                let next = self.next();
                 let decision = rejoin::try_next(NlmeJoinStatus::NotPermitted, next, self.control);
-                return self.carried_out(false, decision);
+                return self.decided_on(decision);
             }
         }
     }
@@ -476,20 +455,19 @@ impl State {
         let Phase::Association = phase else {
             return self.refuse(2);
         };
-        let tried = tries::tried(self.table, self.candidates);
-        let next = tries::next(self.table, self.candidates);
+        let tried = self.tried();
+        let next = self.next();
         let decision = join::association_over(self.control, outcome, tried, next);
-        self.carried_out(false, decision)
+        self.decided_on(decision)
     }
 
     // What a poll or a receive was for goes on.
-    fn goes_on(self, reset: bool, purpose: Purpose, answer: PollAnswer) -> Answer
-        ensures { λ r. ⌜ r ≡ goOn reset purpose answer self ⌝ }
+    fn going_on(self, purpose: Purpose, answer: PollAnswer) -> Decision
+        ensures { λ r. ⌜ r ≡ continuing purpose answer (parent self) (next self) (self .control) ⌝ }
     {
-        let parent = tries::parent_seen(self.table);
-        let next = tries::next(self.table, self.candidates);
-        let decision = continuing(purpose, answer, parent, next, self.control);
-        self.carried_out(reset, decision)
+        let parent = self.parent();
+        let next = self.next();
+        continuing(purpose, answer, parent, next, self.control)
     }
 
     // What a frame does to the table.
@@ -510,11 +488,14 @@ impl State {
         ensures { λ r. ⌜ r ≡ after purpose then self ⌝ }
     {
         match then {
-            Then::Over(answer) => return self.goes_on(false, purpose, answer),
+            Then::Over(answer) => {
+                let decision = self.going_on(purpose, answer);
+                return self.decided_on(decision);
+            }
             Then::Announce(frame, rejoin) => {
                 let leave = TransmissionFor::Leave(Leaving { purpose, rejoin });
                 let decision = operation::transmit(Phase::Transmission(leave), frame, self.control);
-                return self.carried_out(false, decision);
+                return self.decided_on(decision);
             }
         }
     }
@@ -533,7 +514,7 @@ impl State {
         ensures { λ r. ⌜ r ≡ processed purpose frame (taughtOn frame self) ⌝ }
     {
         self.table = received::learn_neighbor(self.table, frame);
-        let parent = tries::parent_seen(self.table);
+        let parent = self.parent();
         let everyone = ShortAddress(nib::NWK_BROADCAST_ALL);
         let broadcast = neighbor_table::neighbor_ieee_address(self.table, everyone);
         let handled = received::process_received_nwk_frame(
@@ -543,20 +524,6 @@ impl State {
             frame,
         );
         self.dealt_with(purpose, handled)
-    }
-
-    fn received(self, purpose: Purpose, outcome: ReceptionOutcome) -> Answer
-        ensures { λ r. ⌜ r ≡ receptionOver outcome purpose self ⌝ }
-    {
-        match outcome {
-            ReceptionOutcome::NoData => {
-                return self.goes_on(false, purpose, exchange::no_data(purpose));
-            }
-            ReceptionOutcome::ReceptionFailed => {
-                return self.goes_on(false, purpose, PollAnswer::PollMacError);
-            }
-            ReceptionOutcome::Received(frame) => return self.frame_received(purpose, frame),
-        }
     }
 
     pub fn reception_over(self, outcome: ReceptionOutcome) -> Answer
@@ -570,7 +537,17 @@ impl State {
         let Phase::Reception(purpose) = phase else {
             return self.refuse(2);
         };
-        self.received(purpose, outcome)
+        match outcome {
+            ReceptionOutcome::NoData => {
+                let decision = self.going_on(purpose, exchange::no_data(purpose));
+                return self.decided_on(decision);
+            }
+            ReceptionOutcome::ReceptionFailed => {
+                let decision = self.going_on(purpose, PollAnswer::PollMacError);
+                return self.decided_on(decision);
+            }
+            ReceptionOutcome::Received(frame) => return self.frame_received(purpose, frame),
+        }
     }
 }
 
@@ -614,8 +591,11 @@ impl State {
         ensures { λ r. ⌜ r ≡ goOn (not (leaving .rejoin)) (leaving .purpose) PollAnswer.PollNothing (afterLeave (leaving .rejoin) self) ⌝ }
     {
         let purpose = leaving.purpose;
-        self.after_leave(leaving.rejoin)
-            .goes_on(!leaving.rejoin, purpose, PollAnswer::PollNothing)
+        let after = self.after_leave(leaving.rejoin);
+        let decision = after.going_on(purpose, PollAnswer::PollNothing);
+        let mut answer = after.decided_on(decision);
+        answer.reset = !leaving.rejoin;
+        answer
     }
 
     fn transmitted(self, purpose: TransmissionFor, sent: bool) -> Answer
@@ -623,25 +603,25 @@ impl State {
     {
         match purpose {
             TransmissionFor::RejoinRequest => {
-                let parent = tries::parent_seen(self.table);
-                let next = tries::next(self.table, self.candidates);
+                let parent = self.parent();
+                let next = self.next();
                 let decision = rejoin_try::request_sent(sent, parent, next, self.control);
-                return self.carried_out(false, decision);
+                return self.decided_on(decision);
             }
             TransmissionFor::Data => {
-                let parent = tries::parent_seen(self.table);
+                let parent = self.parent();
                 let decision = exchange::data_sent(self.control, sent, parent);
-                return self.carried_out(false, decision);
+                return self.decided_on(decision);
             }
             TransmissionFor::TimeoutRequest(timeout) => {
-                let parent = tries::parent_seen(self.table);
+                let parent = self.parent();
                 let decision = negotiation::timeout_request_sent(
                     self.control,
                     timeout,
                     sent,
                     parent,
                 );
-                return self.carried_out(false, decision);
+                return self.decided_on(decision);
             }
             TransmissionFor::Leave(leaving) => return self.left(leaving),
         }
@@ -670,8 +650,8 @@ impl State {
         if self.is_bad() {
             return self.refuse(5);
         }
-        let parent = tries::parent_seen(self.table);
-        self.carried_out(false, exchange::ticked(self.control, parent, elapsed_ms))
+        let parent = self.parent();
+        self.decided_on(exchange::ticked(self.control, parent, elapsed_ms))
     }
 
     pub fn take_leave_indication(self) -> Answer
@@ -680,7 +660,7 @@ impl State {
         if self.is_bad() {
             return self.refuse(5);
         }
-        self.carried_out(false, exchange::leave_taken(self.control))
+        self.decided_on(exchange::leave_taken(self.control))
     }
 
     pub fn take_nwk_status_indication(self) -> Answer
@@ -689,7 +669,7 @@ impl State {
         if self.is_bad() {
             return self.refuse(5);
         }
-        self.carried_out(false, exchange::status_taken(self.control))
+        self.decided_on(exchange::status_taken(self.control))
     }
 
     pub fn select_candidates(

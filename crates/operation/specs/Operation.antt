@@ -17,6 +17,7 @@ use Rattle.operation.specs.declared.Note.{Note}
 use Rattle.operation.specs.declared.Step.{Step}
 use Rattle.operation.specs.declared.Move.{Move}
 use Rattle.operation.specs.declared.Decision.{Decision}
+use Rattle.operation.specs.declared.Polling.{Polling}
 
 abbrev pub withNlme : Nlme → Control → Control
 withNlme n c = record { nlme = n; operation = c .operation }
@@ -139,12 +140,22 @@ polled u p c =
 abbrev pub withPollsLeft : ℕ → Control → Control
 withPollsLeft k c = withOperation (withPolls k (c .operation)) c
 
--- the polls of a rejoin's try, a negotiation or a keepalive: the parent is polled while any is left, then `over` follows. With no parent it follows at once:
+-- the polls of a rejoin's try, a negotiation or a keepalive: the parent is asked while any is left, and nobody once they are over. With no parent they are over at once:
 -- "A poll made while no entry is PARENT counts towards the 20 but sends no radio request" (01, "Join request and confirm")
+unfoldable pub polling : Neighbor → Control → Polling
+polling Neighbor.Absent c = record { parent = Neighbor.Absent; control = withPollsLeft 0 c }
+polling (Neighbor.Entry p) c =
+    cond (eqb (c .operation .«polls_left») 0)
+    (record { parent = Neighbor.Absent; control = c })
+    (record { parent = Neighbor.Entry p; control = withPollsLeft (c .operation .«polls_left» - 1) c })
+
+-- the next poll, or what follows once they are over
+abbrev pub polledOr : Purpose → (Control → Decision) → Neighbor → Control → Decision
+polledOr u over Neighbor.Absent c = over c
+polledOr u over (Neighbor.Entry p) c = polled u p c
+
 unfoldable pub pollOn : Purpose → Neighbor → (Control → Decision) → Control → Decision
-pollOn u Neighbor.Absent over c = over (withPollsLeft 0 c)
-pollOn u (Neighbor.Entry p) over c =
-    cond (eqb (c .operation .«polls_left») 0) (over (withPollsLeft 0 c)) (polled u p (withPollsLeft (c .operation .«polls_left» - 1) c))
+pollOn u parent over c = polledOr u over (polling parent c .parent) (polling parent c .control)
 
 -- a discovery is over, and has heard
 abbrev pub isDiscovered : Step → Bool

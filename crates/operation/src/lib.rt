@@ -1,7 +1,6 @@
 // The operation under way, requests to the radio, and what a decision says.
 ghost use mathlib.Core.Path.{_≡_};
-ghost use Prim.Native.Nat.{_-_};
-ghost use Rattle.operation.specs.Operation.{withNlme, withPollsLeft, inPhase, isIdle, decided, telling, asking, ending, polled, isDiscovered};
+ghost use Rattle.operation.specs.Operation.{withNlme, withPollsLeft, inPhase, isIdle, decided, telling, asking, ending, polled, polling, isDiscovered};
 ghost use Rattle.operation.specs.declared.RadioRequest.the-variants.{Transmit};
 use management::KeepaliveAnswer;
 use management::LeaveIndicationSlot;
@@ -13,6 +12,7 @@ use management::SendAnswer;
 use management::StatusIndicationSlot;
 use mlme::MacCapabilityInformation;
 use nib::ExtendedPanId;
+use nib::Neighbor;
 use nib::NwkNeighbor;
 use nib::PanId;
 use nib::ShortAddress;
@@ -138,6 +138,12 @@ pub struct Decision {
     pub polls_used: u8,
 }
 
+// The polls for a response: whom the next one asks, which is nobody once they are over, and the control part then.
+pub struct Polling {
+    pub parent: Neighbor,
+    pub control: Control,
+}
+
 // The control part with its nlme part replaced.
 pub fn with_nlme(control: Control, nlme: Nlme) -> Control
     ensures { λ r. ⌜ r ≡ withNlme nlme control ⌝ }
@@ -250,22 +256,25 @@ pub fn poll(purpose: Purpose, parent: NwkNeighbor, control: Control) -> Decision
     polled
 }
 
-// One poll less.
-fn one_less(polls: u8) -> u8
-    ensures { λ r. ⌜ r ≡ polls - 1 ⌝ }
+// The next of the polls for a response. With no parent those left are used up at once.
+pub fn poll_on(parent: Neighbor, mut control: Control) -> Polling
+    ensures { λ r. ⌜ r ≡ polling parent control ⌝ }
 {
-    if polls == 0 {
-        return 0;
+    match parent {
+        Neighbor::Absent => {
+            control = with_polls(control, 0);
+            return Polling { parent, control };
+        }
+        Neighbor::Entry(_) => {
+            let left = control.operation.polls_left;
+            if left == 0 {
+                let parent = Neighbor::Absent;
+                return Polling { parent, control };
+            }
+            control = with_polls(control, left - 1);
+            return Polling { parent, control };
+        }
     }
-    polls - 1
-}
-
-// One of the polls that are left.
-pub fn poll_counted(purpose: Purpose, parent: NwkNeighbor, control: Control) -> Decision
-    ensures { λ r. ⌜ r ≡ polled purpose parent (withPollsLeft (control .operation .«polls_left» - 1) control) ⌝ }
-{
-    let left = one_less(control.operation.polls_left);
-    poll(purpose, parent, with_polls(control, left))
 }
 
 // Whether a step is the end of a discovery that has heard.

@@ -2,16 +2,16 @@
 use Prim.Native.Nat.{ℕ, suc, _-_, _<_, _≤_}
 use mathlib.Core.Path.{_≡_, refl, sym, ap, _∙_}
 use mathlib.Core.Bool.{Bool, true, false, cond, not, _||_, false≢true}
-use mathlib.Core.List.{List, [], _∷_, map}
+use mathlib.Core.List.{List, [], _∷_, _++_, map, flatMap}
 use mathlib.Core.Logic.{_⊎_, inl, inr, ⊎-elim}
 use native.Mathlib.Omega.{arith}
 use borrow.Author.Tests.{ltb-true, ltb-false}
 use lib.Dec.{ltb}
 use lib.ListN.{length, drop}
-use Rattle.lists.specs.Lists.{select, some}
+use Rattle.lists.specs.Lists.{some}
 use Rattle.mlme.specs.declared.Address.{Address}
 use Rattle.mlme.specs.declared.PanDescriptor.{PanDescriptor}
-use Rattle.discovery.specs.Discovery.{isShort, shortAddressed}
+use Rattle.discovery.specs.Discovery.{neighborBy, present, neighborsOf, shortAddressed}
 use Rattle.candidates.specs.Candidates.{itemsOf}
 use Rattle.tries.specs.Tries.{pastTable}
 use Rattle.tries.specs.declared.Candidates.{Candidates}
@@ -161,10 +161,11 @@ reception-told (Phase.Reception v) = awaits (λ h. h v refl)
 -- 4: THE SHORT-ADDRESSED DESCRIPTORS
 
 pub shorts-are : (ds : List PanDescriptor) → shorts (map (λ d. d .«coord_address») ds) ≡ shortAddressed ds
+unfolding neighborsOf flatMap present neighborBy
 shorts-are [] = refl
 shorts-are (d ∷ ds) = go (d .«coord_address») (shorts-are ds)
   where
     go : (a : Address) → shorts (map (λ e. e .«coord_address») ds) ≡ shortAddressed ds
-        → shorts (a ∷ map (λ e. e .«coord_address») ds) ≡ length (cond (isShort a) (d ∷ select (λ e. isShort (e .«coord_address»)) ds) (select (λ e. isShort (e .«coord_address»)) ds))
+        → shorts (a ∷ map (λ e. e .«coord_address») ds) ≡ length (present (neighborBy d a) ++ neighborsOf ds)
     go (Address.Short pan address) h = ap suc h
     go (Address.Extended pan address) h = h

@@ -13,14 +13,15 @@ use Rattle.management.specs.declared.NegotiationAnswer.{NegotiationAnswer}
 use Rattle.management.specs.declared.PollAnswer.{PollAnswer}
 use Rattle.management.specs.declared.RejoinResponseSlot.{RejoinResponseSlot}
 use Rattle.management.specs.declared.TimeoutResponseSlot.{TimeoutResponseSlot}
-use Rattle.operation.specs.Operation.{pollOn}
+use Rattle.operation.specs.Operation.{polledOr, polling, pollOn}
 use Rattle.operation.specs.declared.TimeoutFor.{TimeoutFor}
 use Rattle.operation.specs.declared.Purpose.{Purpose}
 use Rattle.operation.specs.declared.Control.{Control}
 use Rattle.operation.specs.declared.RadioRequest.{RadioRequest}
 use Rattle.operation.specs.declared.Step.{Step}
 use Rattle.operation.specs.declared.Decision.{Decision}
-use Rattle.join.specs.Join.{associating, joinStarted, joinedBy, failingOn, candidateFailed, succeeded, associated}
+use Rattle.operation.specs.declared.Polling.{Polling}
+use Rattle.join.specs.Join.{associating, joinStarted, joinedBy, candidateFailed, succeeded, associated}
 use Rattle.join.specs.declared.AssociationResponse.{AssociationResponse}
 use Rattle.join.specs.declared.AssociationOutcome.{AssociationOutcome}
 use Rattle.rejoin.specs.Rejoin.{invalid, trying, scanOrEnd, tryRemembered, rejoinStarted, tryCandidate, tryNext, tryFailed, rejoined, responded, answeredBy, requestSent}
@@ -51,9 +52,9 @@ Made d = Uses (d .step) (d .«polls_used»)
 
 -- the polls
 polls-made : (u : Purpose) (p : Neighbor) (over : Control → Decision) (c : Control) → ((x : Control) → Made (over x)) → Made (pollOn u p over c)
-unfolding pollOn
+unfolding polling pollOn
 polls-made u Neighbor.Absent over c h = h _
-polls-made u (Neighbor.Entry e) over c h = by-cases Made (eqb (c .operation .«polls_left») 0) (λ _. h _) refl
+polls-made u (Neighbor.Entry e) over c h = by-cases (λ (x : Polling). Made (polledOr u over (x .parent) (x .control))) (eqb (c .operation .«polls_left») 0) (λ _. h c) refl
 
 -- the association
 pub join-made : (i : CapabilityInformation) (x : Neighbor) (c : Control) → Made (joinStarted i x c)
@@ -61,20 +62,20 @@ unfolding joinStarted associating
 join-made i Neighbor.Absent c = refl
 join-made i (Neighbor.Entry e) c = refl
 
-candidate-made : (clear : Bool) (st : NlmeJoinStatus) (x : Neighbor) (c : Control) → Made (candidateFailed clear st x c)
-unfolding candidateFailed failingOn associating
-candidate-made clear st Neighbor.Absent c = refl
-candidate-made clear st (Neighbor.Entry e) c = refl
+candidate-made : (st : NlmeJoinStatus) (x : Neighbor) (c : Control) → Made (candidateFailed st x c)
+unfolding candidateFailed associating
+candidate-made st Neighbor.Absent c = refl
+candidate-made st (Neighbor.Entry e) c = refl
 
 succeeded-made : (r : AssociationResponse) (t x : Neighbor) (c : Control) → Made (succeeded r t x c)
 unfolding succeeded joinedBy
-succeeded-made r Neighbor.Absent x c = candidate-made false _ x c
+succeeded-made r Neighbor.Absent x c = candidate-made _ x c
 succeeded-made r (Neighbor.Entry e) x c = refl
 
 pub associated-made : (o : AssociationOutcome) (t x : Neighbor) (c : Control) → Made (associated o t x c)
 unfolding associated
-associated-made AssociationOutcome.AssociationFailed t x c = candidate-made false _ x c
-associated-made (AssociationOutcome.Associated r) t x c = by-cases Made (eqb (r .status) 0) (λ _. succeeded-made r t x c) (candidate-made _ _ x c)
+associated-made AssociationOutcome.AssociationFailed t x c = candidate-made _ x c
+associated-made (AssociationOutcome.Associated r) t x c = by-cases Made (eqb (r .status) 0) (λ _. succeeded-made r t x c) (candidate-made _ x c)
 
 -- the rejoin
 scan-made : (st : NlmeJoinStatus) (c : Control) → Made (scanOrEnd st c)

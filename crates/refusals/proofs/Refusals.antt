@@ -24,7 +24,7 @@ use Rattle.operation.specs.declared.Decision.{Decision}
 use Rattle.exchange.specs.Exchange.{receiveStarted}
 use Rattle.node.specs.Looks.{finish}
 use Rattle.node.specs.Refusals.{refuse, bad, start, outcome}
-use Rattle.node.specs.Calls.{associate, joinBy, scanFailed, heard, scanHeard, scanOver, goOn, after, receptionOver, afterLeave, transmissionOver, Call, discovery, join, send, poll, receive, timeout, scan, association, transmission, reception, elapsed, takeLeave, takeStatus, made, answer, scanned, choose}
+use Rattle.node.specs.Calls.{associate, joinBy, scanFailed, heard, scanHeard, scanOver, goOn, after, receptionOver, afterLeave, transmissionOver, Call, discovery, join, send, poll, receive, timeout, scan, association, transmission, reception, elapsed, takeLeave, takeStatus, made, answer, confirmBy, scanned, choose}
 use Rattle.node.specs.declared.State.{State}
 use Rattle.node.specs.declared.Answer.{Answer}
 use Rattle.node.specs.declared.Choice.{Choice}
@@ -214,13 +214,23 @@ choice n router permit s = go (bad-told s) _ _ refl refl
     go (holds h) x y p q = ((λ _. h, λ _. p), (λ e. omega arith, λ n. absurd (n h)))
     go (fails h) x y p q = ((λ e. absurd (omega arith), λ b. absurd (h b)), (λ _. h, λ _. q))
 
+unchosen : (n : ℕ) (router permit : Bool) (s : State) → Bad s → choose n router permit s .list .count ≡ 0
+unfolding choose
+unchosen n router permit s h = go (bad-told s) _ _ refl
+  where
+    go : {b : Bool} → Tells (Bad s) b → (x y : Choice) → x .list .count ≡ 0 → cond b x y .list .count ≡ 0
+    go (holds b) x y e = e
+    go (fails b) x y e = absurd (b h)
+
 pub demand-1 : Demand1
 unfolding scanned
 demand-1 =
     record {
       answered = λ s c. by-numbers (answer-made s c);
       confirmed = λ s o. by-numbers (answer-made s (scan o));
+      unconfirmed = λ s o k e. ap (λ (x : Step). confirmBy x (descriptorsOf (o .list)) .count) e;
       lent = λ t ms s. by-numbers (lent-made t ms s);
       record-kept = kept;
       choice = choice;
+      unchosen = unchosen;
     }

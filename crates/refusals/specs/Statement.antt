@@ -91,12 +91,14 @@ pub record Answered (s : State) (cs : List (ℕ × Type 0)) (a : Answer) : Type 
   pub given : (k : ℕ) → First k cs → TurnedDown k s a
   pub only : (k : ℕ) → a .step ≡ Step.Refused k → First k cs
 
--- the claim: of any call on any state, a scan's with its confirm too; of the tick over a lent record ("State and lent buffers then stay as handed in"); and of the choice of
--- candidates, which has no state to hand back and says 0 for none
+-- the claim: of any call on any state, and of the call that hands out a scan's confirm too, which is then empty; of the tick over a lent record ("State and lent buffers then
+-- stay as handed in"); and of the choice of candidates, which has no state to hand back, says 0 for none, and is empty where it is turned down
 pub record Demand1 : Type 0 where
   pub answered : (s : State) (c : Call) → Answered s (numbers s c) (answer s c)
   pub confirmed : (s : State) (o : ScanOutcome) → Answered s (numbers s (scan o)) (scanned o s .answer)
+  pub unconfirmed : (s : State) (o : ScanOutcome) (k : ℕ) → scanned o s .answer .step ≡ Step.Refused k → scanned o s .confirm .count ≡ 0
   pub lent : (t : ParentTimer) (ms : ℕ) (s : State) → Answered s ((5, Bad s) ∷ []) (lentTick t ms s .answer)
   pub record-kept : (t : ParentTimer) (ms : ℕ) (s : State) → Bad s → lentTick t ms s .timer ≡ t
   pub choice : (n : ℕ) (router permit : Bool) (s : State)
       → ((choose n router permit s .refusal ≡ 5) ↔ Bad s) × ((choose n router permit s .refusal ≡ 0) ↔ (Bad s → ⊥))
+  pub unchosen : (n : ℕ) (router permit : Bool) (s : State) → Bad s → choose n router permit s .list .count ≡ 0

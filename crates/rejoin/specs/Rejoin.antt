@@ -41,11 +41,11 @@ invalid r n =
 abbrev pub resolved : NlmeJoinRequest → Nlme → ExtendedPanId
 resolved r n = cond (eqb (r .«extended_pan_id» .0) 0) (n .nib .«extended_panid») (r .«extended_pan_id»)
 
--- what the rejoin keeps of its request
+-- what the rejoin keeps of its request; what follows says what is awaited
 abbrev pub operationFor : NlmeJoinRequest → Nlme → Operation
 operationFor r n =
     record {
-      phase = Phase.Transmission TransmissionFor.RejoinRequest;
+      phase = Phase.Idle;
       «extended_pan_id» = resolved r n;
       «security_enabled» = r .«security_enabled»;
       scan = r .scan;

@@ -59,7 +59,7 @@ fn network_of(request: NlmeJoinRequest, nlme: Nlme) -> ExtendedPanId
 fn operation_for(request: NlmeJoinRequest, nlme: Nlme) -> Operation
     ensures { λ r. ⌜ r ≡ operationFor request nlme ⌝ }
 {
-    let phase = Phase::Transmission(TransmissionFor::RejoinRequest);
+    let phase = Phase::Idle;
     let extended_pan_id = network_of(request, nlme);
     let scan = request.scan;
     Operation {

@@ -248,7 +248,7 @@ rejoinStarted-drops s r parent c =
 joinStarted-drops : (s : State) (i : CapabilityInformation) (next : Neighbor) (c : Control) → Drops 699 s (joinStarted i next c)
 unfolding joinStarted associating finish moved potentialCleared
 joinStarted-drops s i Neighbor.Absent c = failing-drops s NlmeJoinStatus.NotPermitted (resetNegotiation c) (omega arith)
-joinStarted-drops s i (Neighbor.Entry e) c = drops s (associating false e (storeCapabilities i (resetNegotiation c))) (omega arith)
+joinStarted-drops s i (Neighbor.Entry e) c = drops s (associating e (storeCapabilities i (resetNegotiation c))) (omega arith)
 
 invalid-starts : (s : State) → Starts (deciding s (failing NlmeJoinStatus.InvalidRequest (s .control)))
 invalid-starts s = starts s _ (failing-drops s NlmeJoinStatus.InvalidRequest (s .control) (omega arith))

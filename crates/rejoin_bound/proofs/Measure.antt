@@ -25,7 +25,8 @@ use Rattle.operation.specs.declared.Control.{Control}
 use Rattle.operation.specs.declared.RadioRequest.{RadioRequest}
 use Rattle.operation.specs.declared.Move.{Move}
 use Rattle.operation.specs.declared.Decision.{Decision}
-use Rattle.operation.specs.Operation.{withNlme, withOperation, scanAsked, withPollsLeft, asking, polled, pollOn}
+use Rattle.operation.specs.declared.Polling.{Polling}
+use Rattle.operation.specs.Operation.{withNlme, withOperation, scanAsked, withPollsLeft, asking, polled, polledOr, polling, pollOn}
 use Rattle.join.specs.Join.{failing, failedStatus}
 use Rattle.rejoin.specs.Rejoin.{noResponse, trying, scanOrEnd, tryCandidate, tryNext, tryFailed, rejoined, responded, answeredBy, requestSent}
 use Rattle.tries.specs.Tries.{toTry, skipped, nextIndex, nextIn, taking, adoptedNext}
@@ -184,10 +185,11 @@ module _ {m : ℕ} (s : State) where
       (λ q. scanOrEnd-drops st c (omega (arith, rest-false (c .operation .scanned) (s .candidates .taken) q)))
 
   polls-drop : (p : Neighbor) (c : Control) → suc (still s (c .operation)) ≤ m → Drops m s (pollOn Purpose.RejoinResponse p (tryFailed NlmeJoinStatus.MacError (next s)) c)
-  unfolding pollOn finish moved potentialCleared
+  unfolding polling pollOn finish moved potentialCleared
   polls-drop Neighbor.Absent c h = tryFailed-drops _ (withPollsLeft 0 c) (omega arith)
   polls-drop (Neighbor.Entry p) c h =
-      either (Drops m s) (eqb (c .operation .«polls_left») 0) (λ _. tryFailed-drops _ (withPollsLeft 0 c) (omega arith))
+      either (λ (x : Polling). Drops m s (polledOr Purpose.RejoinResponse (tryFailed NlmeJoinStatus.MacError (next s)) (x .parent) (x .control))) (eqb (c .operation .«polls_left») 0)
+      (λ _. tryFailed-drops _ c (omega arith))
       (λ q. drops s (polled Purpose.RejoinResponse p (withPollsLeft (c .operation .«polls_left» - 1) c)) (omega (arith, eqb-false (c .operation .«polls_left») 0 q)))
 
   pub answeredBy-drops : (a : RejoinResponseSlot) (p : Neighbor) (c : Control) → suc (still s (c .operation)) ≤ m → Drops m s (answeredBy a p (next s) c)

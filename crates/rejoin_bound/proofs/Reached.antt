@@ -25,7 +25,7 @@ use Rattle.management.specs.declared.StatusIndicationSlot.the-variants.{NoStatu
 use Rattle.frame.specs.declared.ReceivedFrame.the-variants.{LeaveCommand}
 use Rattle.nlme.specs.Nlme.{negotiationReset}
 use Rattle.received.specs.Received.{taughtBy, taught, acceptsLeave, leaveRequested, leaveHandled, handled, leftFor, leaveAnnounced}
-use Rattle.operation.specs.Operation.{pollOn}
+use Rattle.operation.specs.Operation.{polling, pollOn}
 use Rattle.operation.specs.declared.Phase.the-variants.{Idle}
 use Rattle.rejoin.specs.Rejoin.{invalid, trying, scanOrEnd, tryRemembered, rejoinStarted, tryCandidate, tryNext, tryFailed, answeredBy, requestSent}
 use Rattle.node.specs.Looks.{moved, potentialCleared, finish}
@@ -151,7 +151,7 @@ calls = unansweredTry ++ (heardBeacons ∷ times 16 unansweredTry)
 
 pub bound-reached : BoundReached
 unfolding answer bad outcome joinBy rejoinStarted invalid tryRemembered trying negotiationReset finish moved potentialCleared parentIn parentOf
-    transmissionOver requestSent answeredBy pollOn tryFailed scanOrEnd receptionOver taught taughtBy onEntries handled leaveHandled leaveRequested
+    transmissionOver requestSent answeredBy polling pollOn tryFailed scanOrEnd receptionOver taught taughtBy onEntries handled leaveHandled leaveRequested
     acceptsLeave changed after afterLeave leaveAnnounced leftFor continuing scanOver scanHeard heard neighborsOf neighborBy entryOf present
     potentialParent withChosen candidates eligible linkCost newest newer flatMap tryNext tryCandidate nextIn nextIndex skipped taking adoptedNext
     adopted marked

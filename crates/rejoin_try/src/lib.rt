@@ -1,6 +1,6 @@
 // What follows the send and the polls of a try.
 ghost use mathlib.Core.Path.{_≡_};
-ghost use Rattle.operation.specs.Operation.{withNlme, withPollsLeft, inPhase, pollOn};
+ghost use Rattle.operation.specs.Operation.{withNlme, inPhase, pollOn};
 ghost use Rattle.rejoin.specs.Rejoin.{noResponse, tryFailed, remembering, rejoined, responded, tryGoesOn, requestSent};
 use management::NlmeJoinConfirm;
 use management::NlmeJoinStatus;
@@ -67,26 +67,15 @@ fn responded(response: RejoinResponse, next: Neighbor, control: Control) -> Deci
     try_failed(join::failed_status(response.status), next, control)
 }
 
-// No response came in the polls, or there is no parent to poll for those left.
-fn unanswered(next: Neighbor, control: Control) -> Decision
-    ensures { λ r. ⌜ r ≡ tryFailed NlmeJoinStatus.MacError next (withPollsLeft 0 control) ⌝ }
-{
-    let none_left = operation::with_polls(control, 0);
-    try_failed(NlmeJoinStatus::MacError, next, none_left)
-}
-
 // Without a response the polls go on while any is left.
 fn poll_again(parent: Neighbor, next: Neighbor, control: Control) -> Decision
     ensures { λ r. ⌜ r ≡ pollOn Purpose.RejoinResponse parent (tryFailed NlmeJoinStatus.MacError next) control ⌝ }
 {
-    match parent {
-        Neighbor::Absent => return unanswered(next, control),
-        Neighbor::Entry(e) => {
-            if control.operation.polls_left == 0 {
-                return unanswered(next, control);
-            }
-            return operation::poll_counted(Purpose::RejoinResponse, e, control);
-        }
+    let polling = operation::poll_on(parent, control);
+    let asked = polling.parent;
+    match asked {
+        Neighbor::Absent => return try_failed(NlmeJoinStatus::MacError, next, polling.control),
+        Neighbor::Entry(e) => return operation::poll(Purpose::RejoinResponse, e, polling.control),
     }
 }
 

@@ -2,7 +2,8 @@
 ghost use mathlib.Core.Path.{_≡_};
 ghost use Prim.Native.Nat.{_+_, _<_};
 ghost use lib.ListN.{length, getD, set};
-ghost use Rattle.lists.specs.Lists.{firstIndex, changeAt, removeAt};
+ghost use Rattle.lists.specs.Lists.{firstIndex, changeAt};
+ghost use Rattle.lists.specs.Steps.{removeAt};
 ghost use Rattle.supervision.specs.Timeouts.{timeoutSeconds, negotiatedTimeoutMs, refreshed};
 ghost use Rattle.supervision.specs.Keepalive.{keepaliveIntervalMs, offered, keepaliveMethod, negotiatedPollIntervalMs};
 ghost use Rattle.supervision.specs.Failures.{pairsOf, failuresOf, blankPair, ofAddress, oneMore, countedOnce, withRoom, recorded, pairRemoved, transmitFailed};

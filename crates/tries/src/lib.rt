@@ -1,25 +1,17 @@
-// The candidates of an operation: which are chosen, which one is being tried, which comes next, and what a try writes to the neighbour table.
+// The candidates of an operation: which are chosen, which one is being tried, and which comes next.
 ghost use mathlib.Core.Path.{_≡_};
-ghost use mathlib.Core.Bool.{cond, not};
+ghost use mathlib.Core.Bool.{not};
 ghost use Prim.Native.Nat.{_+_};
 ghost use lib.Dec.{ltb};
 ghost use lib.ListN.{length, drop, getD};
 ghost use Rattle.lists.specs.Lists.{firstIndex};
 ghost use Rattle.nib.specs.Neighbors.{entriesOf};
-ghost use Rattle.neighbor_table.specs.NeighborTable.{onEntries};
 ghost use Rattle.candidates.specs.Candidates.{itemsOf};
-ghost use Rattle.tries.specs.Tries.{chosenFrom, parentIn, triedIndex, triedIn, nextIndex, nextIn, pastTable, taking, adoptedNext, joinedTried, potentialClearedTried};
+ghost use Rattle.tries.specs.Tries.{chosenFrom, triedIndex, nextIndex, pastTable, taking};
 use candidates::CandidateList;
 use candidates::select_candidates;
-use neighbor_table::adopt_parent;
-use neighbor_table::clear_beacon_fields;
-use neighbor_table::clear_potential_parent;
-use neighbor_table::mark_parent;
-use neighbor_table::parent;
-use neighbor_table::seen;
 use nib::CapabilityInformation;
 use nib::ExtendedPanId;
-use nib::Neighbor;
 use nib::NeighborTable;
 
 // Indexes into the neighbour table. The first `taken` of them have been tried or skipped, but for the last of these, which is being tried; the others are still to be tried.
@@ -71,16 +63,33 @@ fn index_at(list: CandidateList, place: u8, none: u8) -> u8
     list.indexes[at]
 }
 
-// The place of the first index from a place on that is below a limit, or of the first that is not.
-fn first_from(list: CandidateList, from: u8, limit: u8, below: bool) -> u8
-    ensures { λ r. ⌜ r ≡ from + firstIndex (λ i. cond below (ltb i limit) (not (ltb i limit))) (drop from (itemsOf list)) ⌝ }
+// The place of the first index from a place on that is below a limit.
+fn first_below(list: CandidateList, from: u8, limit: u8) -> u8
+    ensures { λ r. ⌜ r ≡ from + firstIndex (λ i. ltb i limit) (drop from (itemsOf list)) ⌝ }
 {
     let count = in_use(list);
     let mut place = from;
     while place < count {
         let at = place as usize;
         let index = list.indexes[at];
-        if (index < limit) == below {
+        if index < limit {
+            return place;
+        }
+        place += 1;
+    }
+    place
+}
+
+// The place of the first index from a place on that is not below a limit.
+fn first_past(list: CandidateList, from: u8, limit: u8) -> u8
+    ensures { λ r. ⌜ r ≡ from + firstIndex (λ i. not (ltb i limit)) (drop from (itemsOf list)) ⌝ }
+{
+    let count = in_use(list);
+    let mut place = from;
+    while place < count {
+        let at = place as usize;
+        let index = list.indexes[at];
+        if limit <= index {
             return place;
         }
         place += 1;
@@ -89,7 +98,7 @@ fn first_from(list: CandidateList, from: u8, limit: u8, below: bool) -> u8
 }
 
 // The index being tried in a table of `count` entries, `count` where there is none.
-fn tried_index(count: u8, candidates: Candidates) -> u8
+pub fn tried_index(count: u8, candidates: Candidates) -> u8
     ensures { λ r. ⌜ r ≡ triedIndex count candidates ⌝ }
 {
     let taken = candidates.taken;
@@ -100,36 +109,11 @@ fn tried_index(count: u8, candidates: Candidates) -> u8
 }
 
 // The next index to be tried in a table of `count` entries, `count` where there is none: those not below it are skipped.
-fn next_index(count: u8, candidates: Candidates) -> u8
+pub fn next_index(count: u8, candidates: Candidates) -> u8
     ensures { λ r. ⌜ r ≡ nextIndex count candidates ⌝ }
 {
-    let place = first_from(candidates.list, candidates.taken, count, true);
+    let place = first_below(candidates.list, candidates.taken, count);
     index_at(candidates.list, place, count)
-}
-
-// The parent, as commands are addressed to it.
-pub fn parent_seen(table: NeighborTable) -> Neighbor
-    ensures { λ r. ⌜ r ≡ parentIn (entriesOf table) ⌝ }
-{
-    seen(table, parent(table))
-}
-
-// The candidate being tried.
-pub fn tried(table: NeighborTable, candidates: Candidates) -> Neighbor
-    ensures { λ r. ⌜ r ≡ triedIn (entriesOf table) candidates ⌝ }
-{
-    let count = table.len();
-    let tried = tried_index(count, candidates);
-    seen(table, table.get(tried))
-}
-
-// The next candidate. An index past the table is skipped.
-pub fn next(table: NeighborTable, candidates: Candidates) -> Neighbor
-    ensures { λ r. ⌜ r ≡ nextIn (entriesOf table) candidates ⌝ }
-{
-    let count = table.len();
-    let index = next_index(count, candidates);
-    seen(table, table.get(index))
 }
 
 // Whether an index being tried or still to be tried is not below a count.
@@ -140,17 +124,17 @@ pub fn past_table(count: u8, candidates: Candidates) -> bool
     let length = in_use(list);
     let taken = candidates.taken;
     if taken == 0 {
-        return first_from(list, 0, count, false) < length;
+        return first_past(list, 0, count) < length;
     }
-    first_from(list, taken - 1, count, false) < length
+    first_past(list, taken - 1, count) < length
 }
 
 // The next candidate is taken, or all are where none is left.
-pub fn take_next(table: NeighborTable, candidates: Candidates) -> Candidates
-    ensures { λ r. ⌜ r ≡ taking (length (entriesOf table)) candidates ⌝ }
+pub fn take_next(count: u8, candidates: Candidates) -> Candidates
+    ensures { λ r. ⌜ r ≡ taking count candidates ⌝ }
 {
     let length = in_use(candidates.list);
-    let next = first_from(candidates.list, candidates.taken, table.len(), true);
+    let next = first_below(candidates.list, candidates.taken, count);
     let mut out = candidates;
     if length <= next {
         out.taken = length;
@@ -158,32 +142,4 @@ pub fn take_next(table: NeighborTable, candidates: Candidates) -> Candidates
     }
     out.taken = next + 1;
     out
-}
-
-// The next candidate is the parent, and no other entry is.
-pub fn adopt_next(table: NeighborTable, candidates: Candidates) -> NeighborTable
-    ensures { λ r. ⌜ r ≡ onEntries (adoptedNext candidates) table ⌝ }
-{
-    let count = table.len();
-    let index = next_index(count, candidates);
-    adopt_parent(table, index)
-}
-
-// The candidate being tried is a parent, and every entry is without its beacon fields.
-pub fn join_tried(table: NeighborTable, candidates: Candidates) -> NeighborTable
-    ensures { λ r. ⌜ r ≡ onEntries (joinedTried candidates) table ⌝ }
-{
-    let count = table.len();
-    let index = tried_index(count, candidates);
-    let marked = mark_parent(table, index);
-    clear_beacon_fields(marked)
-}
-
-// The candidate being tried is no potential parent.
-pub fn clear_tried(table: NeighborTable, candidates: Candidates) -> NeighborTable
-    ensures { λ r. ⌜ r ≡ onEntries (potentialClearedTried candidates) table ⌝ }
-{
-    let count = table.len();
-    let index = tried_index(count, candidates);
-    clear_potential_parent(table, index)
 }

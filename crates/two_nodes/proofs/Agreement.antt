@@ -15,7 +15,7 @@ use Rattle.neighbor_table.specs.NeighborTable.{parentOf}
 use Rattle.nib.specs.Identifiers.{bit}
 use Rattle.mlme.specs.Mlme.{descriptorsOf}
 use Rattle.mlme.specs.declared.PanDescriptor.{PanDescriptor}
-use Rattle.discovery.specs.Discovery.{neighborsOf, shortAddressed, beaconOf}
+use Rattle.discovery.specs.Discovery.{neighborsOf, shortAddressed}
 use Rattle.management.specs.declared.NlmeJoinStatus.{NlmeJoinStatus}
 use Rattle.management.specs.declared.NlmeJoinRequest.{NlmeJoinRequest}
 use Rattle.management.specs.declared.RejoinNetwork.{RejoinNetwork}
@@ -43,7 +43,7 @@ use Rattle.node.specs.declared.State.{State}
 use Rattle.node.specs.declared.Answer.{Answer}
 use Rattle.node.specs.declared.ScanOutcome.{ScanOutcome}
 use Rattle.node.specs.declared.ReceptionOutcome.{ReceptionOutcome}
-use Rattle.two_nodes.specs.Statement.{shown, AlikeScan, failures, within, above-27, above-16, AlikeCall, same, scans, NoneUnderWay, Names, Allowed}
+use Rattle.two_nodes.specs.Statement.{shown, beaconOf, AlikeScan, failures, within, above-27, above-16, AlikeCall, same, scans, NoneUnderWay, Names, Allowed}
 use Rattle.two_nodes.proofs.Sight.{shows, choiceIn}
 use Rattle.two_nodes.proofs.States.{Sight, sight, liveIn, live, Tidy, Ours, triedSeen, nextSeen, parent-in, tried-in, next-in, joins, writtenIn, written-sight, written-tidy, written-ours, chosen-sight, chosen-tidy, chosen-ours, heard-tidy, heard-list, learntIn, sender, taught-sight, taught-tidy, taught-ours, badIn, bad-is}
 use Rattle.two_nodes.proofs.Decisions.{never, OnPurpose, OnSend, OnScan, OnPhase, On, OnD, ending-on, tryNext-on, answeredBy-on, requestSent-on, rejoinStarted-on, joinStarted-on, associated-on, answered-unseen, request-unseen}

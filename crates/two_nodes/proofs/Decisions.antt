@@ -12,7 +12,7 @@ use Rattle.management.specs.declared.NlmeJoinStatus.{NlmeJoinStatus}
 use Rattle.management.specs.declared.NlmeJoinRequest.{NlmeJoinRequest}
 use Rattle.management.specs.declared.RejoinResponse.{RejoinResponse}
 use Rattle.management.specs.declared.RejoinResponseSlot.{RejoinResponseSlot}
-use Rattle.operation.specs.Operation.{ending, withPollsLeft, pollOn}
+use Rattle.operation.specs.Operation.{ending, withPollsLeft, polledOr, polling, pollOn}
 use Rattle.operation.specs.declared.Purpose.{Purpose}
 use Rattle.operation.specs.declared.ScanFor.{ScanFor}
 use Rattle.operation.specs.declared.TransmissionFor.{TransmissionFor}
@@ -22,7 +22,8 @@ use Rattle.operation.specs.declared.Note.{Note}
 use Rattle.operation.specs.declared.Step.{Step}
 use Rattle.operation.specs.declared.Move.{Move}
 use Rattle.operation.specs.declared.Decision.{Decision}
-use Rattle.join.specs.Join.{failing, resetNegotiation, associating, joinStarted, failedStatus, joinedBy, failingOn, candidateFailed, succeeded, clears, associated}
+use Rattle.operation.specs.declared.Polling.{Polling}
+use Rattle.join.specs.Join.{failing, resetNegotiation, associating, joinStarted, failedStatus, joinedBy, candidateFailed, succeeded, associated}
 use Rattle.join.specs.declared.AssociationResponse.{AssociationResponse}
 use Rattle.join.specs.declared.AssociationOutcome.{AssociationOutcome}
 use Rattle.rejoin.specs.Rejoin.{invalid, resolved, trying, scanOrEnd, tryRemembered, begun, rejoinStarted, adopting, tryCandidate, tryNext, tryFailed, rejoined, responded, answeredBy, requestSent}
@@ -127,10 +128,11 @@ module _ (n : ℕ) where
 
   module _ (c : Control) (e : c .operation .«extended_pan_id» .0 ≡ n) where
     polls-on : (p x : Neighbor) → OnD n (c .operation .scanned) (pollOn Purpose.RejoinResponse p (tryFailed NlmeJoinStatus.MacError x) c)
-    unfolding pollOn
+    unfolding polling pollOn
     polls-on Neighbor.Absent x = tryFailed-on (withPollsLeft 0 c) e _ x
     polls-on (Neighbor.Entry p) x =
-        either (eqb (c .operation .«polls_left») 0) (tryFailed-on (withPollsLeft 0 c) e _ x)
+        by-cases (λ (y : Polling). OnD n (c .operation .scanned) (polledOr Purpose.RejoinResponse (tryFailed NlmeJoinStatus.MacError x) (y .parent) (y .control)))
+        (eqb (c .operation .«polls_left») 0) (λ _. tryFailed-on c e _ x)
         (record { kept = e; ends = λ h. absurd (false≢true h); calm = λ f. record { stays = refl; uncleared = refl; dead = f } })
 
     pub answeredBy-on : (a : RejoinResponseSlot) (p x : Neighbor) → OnD n (c .operation .scanned) (answeredBy a p x c)
@@ -148,29 +150,29 @@ module _ (n : ℕ) where
   rejoinStarted-on r p c e = either (invalid r (c .nlme)) (failing-on _ c) (tryRemembered-on (begun r c) e refl p)
 
   -- the association
-  associating-on : (b : Bool) (x : NwkNeighbor) (c : Control) → OnD n true (associating b x c)
+  associating-on : (x : NwkNeighbor) (c : Control) → OnD n true (associating x c)
   unfolding associating
-  associating-on b x c = record { kept = tt; ends = λ h. absurd (false≢true h); calm = λ f. never true f refl }
+  associating-on x c = record { kept = tt; ends = λ h. absurd (false≢true h); calm = λ f. never true f refl }
 
   pub joinStarted-on : (i : CapabilityInformation) (x : Neighbor) (c : Control) → OnD n true (joinStarted i x c)
   unfolding joinStarted
   joinStarted-on i Neighbor.Absent c = failing-on _ (resetNegotiation c)
-  joinStarted-on i (Neighbor.Entry x) c = associating-on false x _
+  joinStarted-on i (Neighbor.Entry x) c = associating-on x _
 
-  candidateFailed-on : (b : Bool) (st : NlmeJoinStatus) (x : Neighbor) (c : Control) → OnD n true (candidateFailed b st x c)
-  unfolding candidateFailed failingOn
-  candidateFailed-on b st Neighbor.Absent c = record { kept = tt; ends = λ h. refl; calm = λ f. never true f refl }
-  candidateFailed-on b st (Neighbor.Entry x) c = associating-on b x c
+  candidateFailed-on : (st : NlmeJoinStatus) (x : Neighbor) (c : Control) → OnD n true (candidateFailed st x c)
+  unfolding candidateFailed associating
+  candidateFailed-on st Neighbor.Absent c = record { kept = tt; ends = λ h. refl; calm = λ f. never true f refl }
+  candidateFailed-on st (Neighbor.Entry x) c = record { kept = tt; ends = λ h. absurd (false≢true h); calm = λ f. never true f refl }
 
   succeeded-on : (r : AssociationResponse) (t x : Neighbor) (c : Control) → OnD n true (succeeded r t x c)
   unfolding succeeded joinedBy
-  succeeded-on r Neighbor.Absent x c = candidateFailed-on false _ x c
+  succeeded-on r Neighbor.Absent x c = candidateFailed-on _ x c
   succeeded-on r (Neighbor.Entry t) x c = record { kept = tt; ends = λ h. refl; calm = λ f. never true f refl }
 
   pub associated-on : (o : AssociationOutcome) (t x : Neighbor) (c : Control) → OnD n true (associated o t x c)
   unfolding associated
-  associated-on AssociationOutcome.AssociationFailed t x c = candidateFailed-on false _ x c
-  associated-on (AssociationOutcome.Associated r) t x c = either (eqb (r .status) 0) (succeeded-on r t x c) (candidateFailed-on (clears (r .status)) (failedStatus (r .status)) x c)
+  associated-on AssociationOutcome.AssociationFailed t x c = candidateFailed-on _ x c
+  associated-on (AssociationOutcome.Associated r) t x c = either (eqb (r .status) 0) (succeeded-on r t x c) (candidateFailed-on (failedStatus (r .status)) x c)
 
 -- before the scan the next candidate is not looked at
 module _ (x y : Neighbor) where
@@ -180,9 +182,11 @@ module _ (x y : Neighbor) where
 
   module _ (c : Control) (f : c .operation .scanned ≡ false) where
     polls-unseen : (p : Neighbor) → pollOn Purpose.RejoinResponse p (tryFailed NlmeJoinStatus.MacError x) c ≡ pollOn Purpose.RejoinResponse p (tryFailed NlmeJoinStatus.MacError y) c
-    unfolding pollOn
+    unfolding polling pollOn
     polls-unseen Neighbor.Absent = failed-unseen _ (withPollsLeft 0 c) f
-    polls-unseen (Neighbor.Entry p) = both-cases _≡_ (eqb (c .operation .«polls_left») 0) _ refl (λ _. failed-unseen _ (withPollsLeft 0 c) f) (λ _. refl)
+    polls-unseen (Neighbor.Entry p) =
+        by-cases (λ (z : Polling). polledOr Purpose.RejoinResponse (tryFailed NlmeJoinStatus.MacError x) (z .parent) (z .control) ≡ polledOr Purpose.RejoinResponse (tryFailed NlmeJoinStatus.MacError y) (z .parent) (z .control))
+        (eqb (c .operation .«polls_left») 0) (λ _. failed-unseen _ c f) refl
 
     pub answered-unseen : (a : RejoinResponseSlot) (p : Neighbor) → answeredBy a p x c ≡ answeredBy a p y c
     unfolding answeredBy responded

@@ -24,7 +24,7 @@ use Rattle.frame.specs.declared.CommandHeader.{CommandHeader}
 use Rattle.frame.specs.declared.ReceivedFrame.{ReceivedFrame}
 use Rattle.frame.specs.declared.SentFrame.{SentFrame}
 use Rattle.frame.specs.declared.SentFrame.the-variants.{RejoinRequest, Leave}
-use Rattle.operation.specs.Operation.{isIdle, pollOn}
+use Rattle.operation.specs.Operation.{isIdle, polling, pollOn}
 use Rattle.operation.specs.declared.ScanFor.{ScanFor}
 use Rattle.operation.specs.declared.Phase.{Phase}
 use Rattle.operation.specs.declared.RadioRequest.the-variants.{Scan, Associate, Transmit, Poll}
@@ -303,6 +303,7 @@ record Computed : Type 0 where
 
 -- what the two nodes hear
 heard-alike : AlikeScan 170 (scanOf (foreign 1 ∷ own-7 ∷ [])) (scanOf (own-7 ∷ []))
+unfolding neighborsOf flatMap present neighborBy
 heard-alike = within refl refl (omega arith) (omega arith) (omega arith) (omega arith) refl
 
 -- a response is no leave command
@@ -318,7 +319,7 @@ isLeave (ReceptionOutcome.Received (ReceivedFrame.OtherCommand s)) = false
 isLeave (ReceptionOutcome.Received ReceivedFrame.OtherFrame) = false
 
 computed : Computed
-unfolding answer bad refuse outcome moved potentialCleared finish withChosen associate joinBy heard scanHeard scanOver continuing changed after receptionOver transmissionOver parentIn triedIndex skipped nextIndex nextIn pastTable taking adoptedNext found ieeeOf parentOf onEntries learnt marked adopted retained eligible depthAt candidates newer newest potentialParent entryOf neighborBy present neighborsOf associating joinStarted failedStatus invalid trying scanOrEnd tryRemembered rejoinStarted tryCandidate tryNext tryFailed rejoined responded answeredBy pollOn requestSent taughtBy taught rejoinResponded neighborLeft acceptsLeave announcement leaveRequested leaveHandled handled negotiationReset commandHeader linkCost shown flatMap
+unfolding answer bad refuse outcome moved potentialCleared finish withChosen associate joinBy heard scanHeard scanOver continuing changed after receptionOver transmissionOver parentIn triedIndex skipped nextIndex nextIn pastTable taking adoptedNext found ieeeOf parentOf onEntries learnt marked adopted retained eligible depthAt candidates newer newest potentialParent entryOf neighborBy present neighborsOf associating joinStarted failedStatus invalid trying scanOrEnd tryRemembered rejoinStarted tryCandidate tryNext tryFailed rejoined responded answeredBy polling pollOn requestSent taughtBy taught rejoinResponded neighborLeft acceptsLeave announcement leaveRequested leaveHandled handled negotiationReset commandHeader linkCost shown flatMap
 computed =
     record {
       joins-past = refl;

@@ -31,8 +31,9 @@ use Rattle.tries.specs.Tries.{parentIn}
 use Rattle.mlme.specs.declared.Address.{Address}
 use Rattle.mlme.specs.declared.Address.the-variants.{Short, Extended}
 use Rattle.mlme.specs.declared.PanDescriptor.{PanDescriptor}
-use Rattle.discovery.specs.Discovery.{entryOf, neighborBy, present, neighborsOf, beaconOf}
+use Rattle.discovery.specs.Discovery.{entryOf, neighborBy, present, neighborsOf}
 use Rattle.discovery.proofs.Scans.{network-neighbors}
+use Rattle.two_nodes.specs.Statement.{beaconOf}
 
 -- WHAT NETWORK n SEES
 

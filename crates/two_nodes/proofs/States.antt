@@ -31,8 +31,7 @@ use Rattle.frame.specs.declared.Source.{Source}
 use Rattle.frame.specs.declared.ReceivedFrame.{ReceivedFrame}
 use Rattle.frame.specs.declared.ReceivedFrame.the-variants.{Undecodable, Data, RejoinResponseCommand, TimeoutResponseCommand, LeaveCommand, OtherCommand, OtherFrame}
 use Rattle.mlme.specs.declared.PanDescriptor.{PanDescriptor}
-use Rattle.discovery.specs.Discovery.{neighborsOf, shortAddressed, beaconOf}
-use Rattle.discovery.proofs.Scans.{neighbors-many}
+use Rattle.discovery.specs.Discovery.{neighborsOf, shortAddressed}
 use Rattle.neighbor_table.proofs.Addressed.{mild-potential, taughtTo}
 use Rattle.candidates.specs.UpdateIds.{ofNetwork}
 use Rattle.candidates.specs.Candidates.{candidates, itemsOf, listOf}
@@ -48,6 +47,7 @@ use Rattle.node.specs.Refusals.{pastIn, bad}
 use Rattle.node.specs.Calls.{withChosen, heard, taughtOn}
 use Rattle.received.specs.Received.{taughtBy, taught}
 use Rattle.node.specs.declared.State.{State}
+use Rattle.two_nodes.specs.Statement.{beaconOf}
 use Rattle.two_nodes.proofs.Sight.{shows, marks, Placed, nowhere, placed-at, parent-shows, entry-shows, changed-shows, adoptedIn, adopted-shows, adopted-marks, joinedIn, joined-shows, joined-ranks, learnt-shows, learnt-marks, scan-shows, choiceIn, choice-ours, choice-shows}
 
 -- what is seen of the table; the places of all candidates among the network's own entries; and how many candidates have been taken
@@ -357,7 +357,7 @@ module _ (ds : List PanDescriptor) (s : State) (within : shortAddressed ds ≤ 1
 
   pub heard-tidy : s .candidates .list .count ≤ 16 → Tidy (heard ds s)
   unfolding heard
-  heard-tidy h = record { small = omega (arith, neighbors-many ds); few = h }
+  heard-tidy h = record { small = within; few = h }
 
   pub heard-list : (n : ℕ) → shows n (entries (heard ds s)) ≡ neighborsOf (select (beaconOf n) ds)
   heard-list n = ap (shows n) heard-entries ∙ scan-shows n ds

@@ -4,10 +4,12 @@ use Prim.Native.Nat.{ℕ, _<_, _≤_}
 use mathlib.Core.Path.{_≡_}
 use mathlib.Core.Bool.{Bool, true, false}
 use mathlib.Core.List.{List, [], _∷_}
+use lib.Dec.{eqb}
 use Rattle.lists.specs.Lists.{select}
 use Rattle.nib.specs.declared.ShortAddress.{ShortAddress}
 use Rattle.mlme.specs.Mlme.{descriptorsOf}
-use Rattle.discovery.specs.Discovery.{beaconOf, shortAddressed}
+use Rattle.mlme.specs.declared.PanDescriptor.{PanDescriptor}
+use Rattle.discovery.specs.Discovery.{shortAddressed}
 use Rattle.management.specs.declared.NlmeJoinRequest.{NlmeJoinRequest}
 use Rattle.management.specs.declared.RejoinNetwork.{RejoinNetwork}
 use Rattle.frame.specs.declared.Source.{Source}
@@ -55,8 +57,12 @@ abbrev pub run : State → List Call → List Shown
 run s [] = []
 run s (c ∷ cs) = shown (answer s c) ∷ run (answer s c .state) cs
 
+-- "Its beacons are the scan's descriptors with that id."
+abbrev pub beaconOf : ℕ → PanDescriptor → Bool
+beaconOf n d = eqb (d .«zigbee_beacon» .«extended_pan_id» .0) n
+
 -- "Scan outcomes at the same place are equal failures; or both within 27 and 16, the network's beacons equal in every field and in order; or both above 27; or both within 27
--- with above 16 short-addressed." "Its beacons are the scan's descriptors with that id": `beaconOf n`
+-- with above 16 short-addressed."
 pub data AlikeScan (n : ℕ) (o p : ScanOutcome) : Type 0 where
   failures : o .failed ≡ true → p .failed ≡ true → AlikeScan n o p
   within : o .failed ≡ false → p .failed ≡ false → o .list .count ≤ 27 → p .list .count ≤ 27

@@ -4,7 +4,7 @@ use mathlib.Core.Path.{sym, ap, _∙_}
 use borrow.Author.Tests.{eq-eqb, ne-eqb}
 use borrow.Author.Needs.{needs}
 use Rattle.lists.proofs.Conditions.{pick-true, pick-false}
-use Rattle.join.specs.Join.{candidateFailed, associated}
+use Rattle.join.specs.Join.{associated}
 use Rattle.join.specs.declared.AssociationOutcome.{AssociationOutcome}
 use Rattle.join.proofs.association_over.Statement.{statement}
 use Rattle.join.proofs.association_over.Tie as tie
@@ -34,9 +34,6 @@ returns-2 c =
     c .succeeded .ensures ∙ pick-true (eqb s 0) _ _ (eq-eqb s 0 (c .before .if1 .taken))
     ∙ sym (ap (λ (x : AssociationOutcome). associated x (a .tried) (a .next) (a .control)) (o .1))
 
-clears-requires : tie.Need-clears-requires
-clears-requires c κs = search needs
-
 failed-status-requires : tie.Need-failed-status-requires
 failed-status-requires c κs = search needs
 
@@ -46,11 +43,11 @@ candidate-failed-requires-2 c κs = search needs
 returns-3 : tie.Need-returns-3
 unfolding associated
 returns-3 c =
-    let a = c .before .before .before .before .before .before .before .args in
-    let o = c .before .before .before .before .before .outcome .given in
+    let a = c .before .before .before .before .before .before .args in
+    let o = c .before .before .before .before .outcome .given in
     let s = o .0 .0 .status in
-    rw (c .candidate-failed2 .ensures, c .before .failed-status .ensures, c .before .before .clears .ensures)
-    (pick-false (eqb s 0) _ _ (ne-eqb s 0 (c .before .before .before .if1 .left))
+    rw (c .candidate-failed2 .ensures, c .before .failed-status .ensures)
+    (pick-false (eqb s 0) _ _ (ne-eqb s 0 (c .before .before .if1 .left))
     ∙ sym (ap (λ (x : AssociationOutcome). associated x (a .tried) (a .next) (a .control)) (o .1)))
 
 pub association-over-spec : {M : Type 1} → statement M
@@ -63,7 +60,6 @@ association-over-spec =
     enum-known-outcome
     succeeded-requires
     returns-2
-    clears-requires
     failed-status-requires
     candidate-failed-requires-2
     returns-3)

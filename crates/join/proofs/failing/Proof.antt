@@ -1,5 +1,4 @@
 -- `failing` meets its contract. Assumes nothing.
-use Rattle.join.specs.Join.{failingOn}
 use borrow.Author.Needs.{needs}
 use Rattle.join.proofs.failing.Statement.{statement}
 use Rattle.join.proofs.failing.Tie as tie
@@ -8,7 +7,6 @@ failing-on-requires : tie.Need-failing-on-requires
 failing-on-requires c κs = search needs
 
 returns : tie.Need-returns
-unfolding failingOn
 returns c = c .failing-on .ensures
 
 pub failing-spec : {M : Type 1} → statement M

@@ -1,5 +1,4 @@
 -- `failing_on` meets its contract. Assumes nothing.
-use Rattle.join.specs.Join.{failingOn}
 use borrow.Author.Needs.{needs}
 use Rattle.join.proofs.failing_on.Statement.{statement}
 use Rattle.join.proofs.failing_on.Tie as tie
@@ -11,7 +10,6 @@ moving-requires : tie.Need-moving-requires
 moving-requires c κs = search needs
 
 returns : tie.Need-returns
-unfolding failingOn
 returns c = rw (c .moving .ensures, c .before .join-failure .ensures)
 
 pub failing-on-spec : {M : Type 1} → statement M

@@ -1,5 +1,5 @@
 -- `join_started` meets its contract. Assumes nothing.
-use Rattle.join.specs.Join.{joinStarted}
+use Rattle.join.specs.Join.{associating, joinStarted}
 use mathlib.Core.Path.{sym, ap}
 use Rattle.nib.specs.declared.Neighbor.{Neighbor}
 use borrow.Author.Needs.{needs}
@@ -31,7 +31,7 @@ associate-requires : tie.Need-associate-requires
 associate-requires c κs = search needs
 
 returns-2 : tie.Need-returns-2
-unfolding joinStarted
+unfolding joinStarted associating
 returns-2 c =
     let a = c .before .before .before .before .before .before .args in
     rw (c .associate .ensures, c .before .store-capabilities .ensures, c .before .before .before .before .before .reset-negotiation .ensures) (sym (ap (λ (x : Neighbor). joinStarted (a .capability-information) x (a .control)) (c .before .before .before .next .given .1)))

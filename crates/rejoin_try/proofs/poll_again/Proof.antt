@@ -1,63 +1,56 @@
 -- `poll_again` meets its contract. Assumes nothing.
-use borrow.Author.Tests.{eq-eqb, ne-eqb}
-use mathlib.Core.Path.{ap, sym, _∙_}
-use lib.Dec.{eqb}
-use Rattle.lists.proofs.Conditions.{pick-true, pick-false}
+use mathlib.Core.Path.{sym, ap, _∙_}
 use Rattle.nib.specs.declared.Neighbor.{Neighbor}
 use Rattle.management.specs.declared.NlmeJoinStatus.the-variants.{MacError}
-use Rattle.operation.specs.Operation.{pollOn}
+use Rattle.operation.specs.Operation.{polledOr, pollOn}
+use Rattle.operation.specs.declared.Polling.{Polling}
 use Rattle.operation.specs.declared.Purpose.the-variants.{RejoinResponse}
 use Rattle.rejoin.specs.Rejoin.{tryFailed}
 use borrow.Author.Needs.{needs}
 use Rattle.rejoin_try.proofs.poll_again.Statement.{statement}
 use Rattle.rejoin_try.proofs.poll_again.Tie as tie
 
+poll-on-requires : tie.Need-poll-on-requires
+poll-on-requires c κs = search needs
+
 enum-told : tie.Need-enum-told
 enum-told c = search needs
 
-unanswered-requires : tie.Need-unanswered-requires
-unanswered-requires c κs = search needs
+try-failed-requires : tie.Need-try-failed-requires
+try-failed-requires c κs = search needs
 
 returns : tie.Need-returns
 unfolding pollOn
 returns c =
-    let a = c .before .before .before .args in
-    c .unanswered .ensures ∙ sym (ap (λ (x : Neighbor). pollOn RejoinResponse x (tryFailed MacError (a .next)) (a .control)) (c .before .enum-told .given .1))
+    let a = c .before .before .before .before .args in
+    let r = c .before .before .before .poll-on .result in
+    c .try-failed .ensures
+    ∙ sym (ap (λ (x : Neighbor). polledOr RejoinResponse (tryFailed MacError (a .next)) x (r .control)) (c .before .enum-told .given .1))
+    ∙ ap (λ (x : Polling). polledOr RejoinResponse (tryFailed MacError (a .next)) (x .parent) (x .control)) (c .before .before .before .poll-on .ensures)
 
-enum-known-parent : tie.Need-enum-known-parent
-enum-known-parent c = search needs
+enum-known-asked : tie.Need-enum-known-asked
+enum-known-asked c = search needs
 
-unanswered-requires-2 : tie.Need-unanswered-requires-2
-unanswered-requires-2 c κs = search needs
+poll-requires : tie.Need-poll-requires
+poll-requires c κs = search needs
 
 returns-2 : tie.Need-returns-2
 unfolding pollOn
 returns-2 c =
-    let a = c .before .before .before .before .before .before .args in
-    let k = a .control .operation .«polls_left» in
-    c .unanswered2 .ensures ∙ pick-true (eqb k 0) _ _ (eq-eqb k 0 (c .before .if1 .taken))
-    ∙ sym (ap (λ (x : Neighbor). pollOn RejoinResponse x (tryFailed MacError (a .next)) (a .control)) (c .before .before .before .before .parent .given .1))
-
-poll-counted-requires : tie.Need-poll-counted-requires
-poll-counted-requires c κs = search needs
-
-returns-3 : tie.Need-returns-3
-unfolding pollOn
-returns-3 c =
-    let a = c .before .before .before .before .before .before .args in
-    let k = a .control .operation .«polls_left» in
-    c .poll-counted .ensures ∙ pick-false (eqb k 0) _ _ (ne-eqb k 0 (c .before .if1 .left))
-    ∙ sym (ap (λ (x : Neighbor). pollOn RejoinResponse x (tryFailed MacError (a .next)) (a .control)) (c .before .before .before .before .parent .given .1))
+    let a = c .before .before .before .before .before .args in
+    let r = c .before .before .before .before .poll-on .result in
+    c .poll .ensures
+    ∙ sym (ap (λ (x : Neighbor). polledOr RejoinResponse (tryFailed MacError (a .next)) x (r .control)) (c .before .before .asked .given .1))
+    ∙ ap (λ (x : Polling). polledOr RejoinResponse (tryFailed MacError (a .next)) (x .parent) (x .control)) (c .before .before .before .before .poll-on .ensures)
 
 pub poll-again-spec : {M : Type 1} → statement M
 poll-again-spec =
     tie.close
     (tie.spec
+    poll-on-requires
     enum-told
-    unanswered-requires
+    try-failed-requires
     returns
-    enum-known-parent
-    unanswered-requires-2
-    returns-2
-    poll-counted-requires
-    returns-3)
+    enum-known-asked
+    poll-requires
+    returns-2)

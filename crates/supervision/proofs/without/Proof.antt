@@ -7,7 +7,7 @@ use native.Mathlib.Omega.{arith}
 use borrow.Author.Needs.{needs}
 use lib.ListN.{length, take, getD, length-take}
 use lib.Seq.{getD-take, take-all, length-take-le}
-use Rattle.lists.specs.Lists.{removeAt}
+use Rattle.lists.specs.Steps.{removeAt}
 use Rattle.lists.proofs.Lists.{length-mapped, take-next}
 use Rattle.lists.proofs.Pairs.{remove-snoc, remove-last, remove-le}
 use Rattle.supervision.specs.Failures.{pairsOf, failuresOf, blankPair}

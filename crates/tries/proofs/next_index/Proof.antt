@@ -7,8 +7,8 @@ use borrow.Author.Needs.{needs}
 use Rattle.tries.proofs.next_index.Statement.{statement}
 use Rattle.tries.proofs.next_index.Tie as tie
 
-first-from-requires : tie.Need-first-from-requires
-first-from-requires c κs = search needs
+first-below-requires : tie.Need-first-below-requires
+first-below-requires c κs = search needs
 
 index-at-requires : tie.Need-index-at-requires
 index-at-requires c κs = search needs
@@ -17,8 +17,8 @@ returns : tie.Need-returns
 unfolding nextIndex skipped
 returns c =
     let a = c .before .before .args in
-    rw (c .index-at .ensures, c .before .first-from .ensures)
+    rw (c .index-at .ensures, c .before .first-below .ensures)
     (sym (getD-drop (a .candidates .taken) (itemsOf (a .candidates .list)) (skipped (a .count) (a .candidates)) (a .count)))
 
 pub next-index-spec : {M : Type 1} → statement M
-next-index-spec = tie.close (tie.spec first-from-requires index-at-requires returns)
+next-index-spec = tie.close (tie.spec first-below-requires index-at-requires returns)

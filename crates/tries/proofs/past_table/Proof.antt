@@ -29,34 +29,34 @@ found p l k = rw (some-first p (drop k l), length-drop k l) (shift k (firstIndex
 in-use-requires : tie.Need-in-use-requires
 in-use-requires c κs = search needs
 
-first-from-requires : tie.Need-first-from-requires
-first-from-requires c κs = search needs
+first-past-requires : tie.Need-first-past-requires
+first-past-requires c κs = search needs
 
 returns : tie.Need-returns
 unfolding pastTable
 returns c =
     let a = c .before .before .before .before .args in
-    rw (c .first-from .ensures, c .before .before .in-use .ensures, c .before .if1 .taken) (found (λ i. not (ltb i (a .count))) (itemsOf (a .candidates .list)) 0)
+    rw (c .first-past .ensures, c .before .before .in-use .ensures, c .before .if1 .taken) (found (λ i. not (ltb i (a .count))) (itemsOf (a .candidates .list)) 0)
 
-sub-first-from : tie.Need-sub-first-from
-sub-first-from c = search needs
+sub-first-past : tie.Need-sub-first-past
+sub-first-past c = search needs
 
-first-from-requires-2 : tie.Need-first-from-requires-2
-first-from-requires-2 c κs = search needs
+first-past-requires-2 : tie.Need-first-past-requires-2
+first-past-requires-2 c κs = search needs
 
 returns-2 : tie.Need-returns-2
 unfolding pastTable
 returns-2 c =
     let a = c .before .before .before .before .args in
-    rw (c .first-from2 .ensures, c .before .before .in-use .ensures) (found (λ i. not (ltb i (a .count))) (itemsOf (a .candidates .list)) (a .candidates .taken - 1))
+    rw (c .first-past2 .ensures, c .before .before .in-use .ensures) (found (λ i. not (ltb i (a .count))) (itemsOf (a .candidates .list)) (a .candidates .taken - 1))
 
 pub past-table-spec : {M : Type 1} → statement M
 past-table-spec =
     tie.close
     (tie.spec
     in-use-requires
-    first-from-requires
+    first-past-requires
     returns
-    sub-first-from
-    first-from-requires-2
+    sub-first-past
+    first-past-requires-2
     returns-2)

@@ -3,7 +3,6 @@ use Prim.Native.Nat.{ℕ, _+_, min}
 use mathlib.Core.Path.{_≡_, ap}
 use native.Mathlib.Omega.{arith}
 use lib.ListN.{length}
-use Rattle.nib.specs.Neighbors.{entriesOf}
 use Rattle.candidates.specs.Candidates.{itemsOf}
 use Rattle.tries.specs.Tries.{skipped, taking}
 use Rattle.tries.specs.declared.Candidates.{Candidates}
@@ -17,19 +16,16 @@ takenTo k c = record { list = c .list; taken = k }
 in-use-requires : tie.Need-in-use-requires
 in-use-requires c κs = search needs
 
-len-requires : tie.Need-len-requires
-len-requires c κs = search needs
-
-first-from-requires : tie.Need-first-from-requires
-first-from-requires c κs = search needs
+first-below-requires : tie.Need-first-below-requires
+first-below-requires c κs = search needs
 
 returns : tie.Need-returns
 unfolding taking skipped
 returns c =
-    let b = c .before .before .before in
+    let b = c .before .before in
     let a = b .before .args in
-    let e : b .in-use .result ≡ min (a .candidates .taken + skipped (length (entriesOf (a .table))) (a .candidates) + 1) (length (itemsOf (a .candidates .list))) =
-    rw (← c .before .before .len .ensures) (omega (arith, c .before .first-from .ensures, b .in-use .ensures)) in
+    let e : b .in-use .result ≡ min (a .candidates .taken + skipped (a .count) (a .candidates) + 1) (length (itemsOf (a .candidates .list))) =
+    omega (arith, c .before .first-below .ensures, b .in-use .ensures) in
     ap (λ (k : ℕ). takenTo k (a .candidates)) e
 
 add-out : tie.Need-add-out
@@ -38,13 +34,13 @@ add-out c = search needs
 returns-2 : tie.Need-returns-2
 unfolding taking skipped
 returns-2 c =
-    let b = c .before .before .before in
+    let b = c .before .before in
     let a = b .before .args in
-    let e : c .before .first-from .result + 1 ≡ min (a .candidates .taken + skipped (length (entriesOf (a .table))) (a .candidates) + 1) (length (itemsOf (a .candidates .list))) =
-    rw (← c .before .before .len .ensures) (omega (arith, c .before .first-from .ensures, b .in-use .ensures)) in
+    let e : c .before .first-below .result + 1 ≡ min (a .candidates .taken + skipped (a .count) (a .candidates) + 1) (length (itemsOf (a .candidates .list))) =
+    omega (arith, c .before .first-below .ensures, b .in-use .ensures) in
     ap (λ (k : ℕ). takenTo k (a .candidates)) e
 
 pub take-next-spec : {M : Type 1} → statement M
 take-next-spec =
     tie.close
-    (tie.spec in-use-requires len-requires first-from-requires returns add-out returns-2)
+    (tie.spec in-use-requires first-below-requires returns add-out returns-2)

@@ -11,14 +11,14 @@ use Rattle.node.proofs.State.associate.Tie as tie
 failing-requires : tie.Need-failing-requires
 failing-requires c κs = search needs
 
-carried-out-requires : tie.Need-carried-out-requires
-carried-out-requires c κs = search needs
+decided-on-requires : tie.Need-decided-on-requires
+decided-on-requires c κs = search needs
 
 returns : tie.Need-returns
 unfolding associate
 returns c =
     let n = c .before .before .before .before .args .self .control .nlme .nib .«network_address» .0 in
-    rw (c .carried-out .ensures, c .before .failing .ensures) (pick-false (eqb n 0xffff) _ _ (ne-eqb n 0xffff (c .before .before .if1 .taken)))
+    rw (c .decided-on .ensures, c .before .failing .ensures) (pick-false (eqb n 0xffff) _ _ (ne-eqb n 0xffff (c .before .before .if1 .taken)))
 
 chosen-requires : tie.Need-chosen-requires
 chosen-requires c κs = search needs
@@ -29,14 +29,14 @@ next-requires c κs = search needs
 join-started-requires : tie.Need-join-started-requires
 join-started-requires c κs = search needs
 
-carried-out-requires-2 : tie.Need-carried-out-requires-2
-carried-out-requires-2 c κs = search needs
+decided-on-requires-2 : tie.Need-decided-on-requires-2
+decided-on-requires-2 c κs = search needs
 
 returns-2 : tie.Need-returns-2
 unfolding associate withChosen
 returns-2 c =
     let n = c .before .before .before .before .before .before .args .self .control .nlme .nib .«network_address» .0 in
-    rw (c .carried-out2 .ensures, c .before .join-started .ensures, c .before .before .next .ensures, c .before .before .before .chosen .ensures) (pick-true (eqb n 0xffff) _ _ (eq-eqb n 0xffff (c .before .before .before .before .if1 .left)))
+    rw (c .decided-on2 .ensures, c .before .join-started .ensures, c .before .before .next .ensures, c .before .before .before .chosen .ensures) (pick-true (eqb n 0xffff) _ _ (eq-eqb n 0xffff (c .before .before .before .before .if1 .left)))
 
 pub associate-spec : {M : Type 1} → statement M
-associate-spec = tie.close (tie.spec failing-requires carried-out-requires returns chosen-requires next-requires join-started-requires carried-out-requires-2 returns-2)
+associate-spec = tie.close (tie.spec failing-requires decided-on-requires returns chosen-requires next-requires join-started-requires decided-on-requires-2 returns-2)

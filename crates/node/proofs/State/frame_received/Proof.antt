@@ -6,8 +6,8 @@ use Rattle.node.proofs.State.frame_received.Tie as tie
 learn-neighbor-requires : tie.Need-learn-neighbor-requires
 learn-neighbor-requires c κs = search needs
 
-parent-seen-requires : tie.Need-parent-seen-requires
-parent-seen-requires c κs = search needs
+parent-requires : tie.Need-parent-requires
+parent-requires c κs = search needs
 
 neighbor-ieee-address-requires : tie.Need-neighbor-ieee-address-requires
 neighbor-ieee-address-requires c κs = search needs
@@ -19,7 +19,7 @@ dealt-with-requires : tie.Need-dealt-with-requires
 dealt-with-requires c κs = search needs
 
 returns : tie.Need-returns
-returns c = rw (c .dealt-with .ensures, c .before .process-received-nwk-frame .ensures, c .before .before .neighbor-ieee-address .ensures, c .before .before .before .parent-seen .ensures, c .before .before .before .before .learn-neighbor .ensures)
+returns c = rw (c .dealt-with .ensures, c .before .process-received-nwk-frame .ensures, c .before .before .neighbor-ieee-address .ensures, c .before .before .before .parent .ensures, c .before .before .before .before .learn-neighbor .ensures)
 
 pub frame-received-spec : {M : Type 1} → statement M
-frame-received-spec = tie.close (tie.spec learn-neighbor-requires parent-seen-requires neighbor-ieee-address-requires process-received-nwk-frame-requires dealt-with-requires returns)
+frame-received-spec = tie.close (tie.spec learn-neighbor-requires parent-requires neighbor-ieee-address-requires process-received-nwk-frame-requires dealt-with-requires returns)

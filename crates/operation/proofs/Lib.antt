@@ -1,2 +1,0 @@
--- The laws of `operation`.
-pub mod Polls
