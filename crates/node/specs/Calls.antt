@@ -3,6 +3,7 @@ use Prim.Native.Nat.{ℕ}
 use mathlib.Core.Bool.{Bool, true, false, cond, not}
 use mathlib.Core.List.{List, [], map}
 use lib.Dec.{eqb, ltb}
+use lib.ListN.{length}
 use Rattle.nib.specs.Neighbors.{tableOf}
 use Rattle.nib.specs.declared.CapabilityInformation.{CapabilityInformation}
 use Rattle.nib.specs.declared.Neighbor.{Neighbor}
@@ -25,7 +26,7 @@ use Rattle.received.specs.Received.{taught, handled, leaveAnnounced}
 use Rattle.received.specs.declared.TableChange.{TableChange}
 use Rattle.received.specs.declared.Then.{Then}
 use Rattle.received.specs.declared.Handled.{Handled}
-use Rattle.operation.specs.Operation.{withNlme, scanFor, associationFor, transmissionFor, receptionFor, isDiscovered, asking, ending}
+use Rattle.operation.specs.Operation.{withNlme, scanFor, associationFor, transmissionFor, receptionFor, isDiscovered, telling, asking, ending}
 use Rattle.operation.specs.declared.TimeoutFor.{TimeoutFor}
 use Rattle.operation.specs.declared.Purpose.{Purpose}
 use Rattle.operation.specs.declared.ScanFor.{ScanFor}
@@ -48,6 +49,7 @@ use Rattle.node.specs.declared.Choice.{Choice}
 use Rattle.node.specs.Looks.{withControl, withTable, withCandidates, entries, parent, tried, next, broadcast, finish, deciding}
 use Rattle.node.specs.Refusals.{refuse, bad, start, outcome}
 use Rattle.management.specs.declared.NlmeJoinStatus.{NlmeJoinStatus}
+use Rattle.neighbor_page.specs.Page.{tooShort, written}
 
 -- Join and rejoin (01, "Join request and confirm"; Zigbee 3.2.2.13)
 
@@ -208,3 +210,11 @@ unfoldable pub choose : ℕ → Bool → Bool → State → Choice
 choose n router permit s =
     cond (bad s) (record { refusal = 5; list = listOf [] })
     (record { refusal = 0; list = listOf (candidates (s .control .nlme .nib .«stack_profile») router permit n (entries s)) })
+
+-- the neighbour page, written into a lent buffer of n bytes (02, L1): "6, a lent buffer shorter than 816 bytes, after 5"; the state stays
+unfoldable pub pageAnswer : ℕ → State → Answer
+pageAnswer n s = cond (bad s) (refuse 5 s) (cond (tooShort n) (refuse 6 s) (deciding s (telling Step.PageWritten (s .control))))
+
+-- what stands in the lent buffer b then; after a refusal all that stood there
+unfoldable pub pageLeft : List ℕ → State → List ℕ
+pageLeft b s = cond (bad s) b (written (entries s) b)

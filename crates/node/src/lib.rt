@@ -4,8 +4,9 @@ ghost use mathlib.Core.Bool.{true, false, cond, not};
 ghost use Rattle.operation.specs.Operation.{isIdle, associationFor};
 ghost use Rattle.node.specs.Looks.{parent, tried, next, deciding};
 ghost use Rattle.node.specs.Refusals.{refuse, pastIn, badBy, bad};
-ghost use Rattle.node.specs.Calls.{joinBy, associate, scanFailed, scanHeard, scanOver, confirmBy, scanned, continuing, goOn, changed, after, handledOn, taughtOn, processed, receptionOver, afterLeave, transmissionOver, answer, choose, discovery, join, send, poll, receive, timeout, scan, association, transmission, reception, elapsed, takeLeave, takeStatus};
+ghost use Rattle.node.specs.Calls.{joinBy, associate, scanFailed, scanHeard, scanOver, confirmBy, scanned, continuing, goOn, changed, after, handledOn, taughtOn, processed, receptionOver, afterLeave, transmissionOver, answer, choose, pageAnswer, pageLeft, discovery, join, send, poll, receive, timeout, scan, association, transmission, reception, elapsed, takeLeave, takeStatus};
 ghost use Rattle.mlme.specs.Mlme.{descriptorsOf};
+ghost use lib.ListN.{length};
 use candidates::CandidateList;
 use discovery::NlmeNetworkDiscoveryConfirm;
 use frame::ReceivedFrame;
@@ -695,5 +696,22 @@ impl State {
             require_permit_joining,
         );
         Choice { refusal: 0, list }
+    }
+}
+
+// The neighbour page.
+impl State {
+    // Writes the neighbour table as text for the depot screen, 17 rows of 47 characters, each with a line feed, at the start of a lent buffer: `PageWritten`, with the state as
+    // handed in. Refusal 6 for a buffer shorter than 816 bytes; after a refusal no byte of it has changed, and those past 816 never do.
+    pub fn write_neighbor_page(self, page: &mut [u8]) -> Answer
+        ensures { λ r. ⌜ (r ≡ pageAnswer (length (now (page .entry))) self) × (now (page .exit) ≡ pageLeft (now (page .entry)) self) ⌝ }
+    {
+        if self.is_bad() {
+            return self.refuse(5);
+        }
+        if !neighbor_page::write_page(page, self.table) {
+            return self.refuse(6);
+        }
+        self.decided_on(operation::telling(Step::PageWritten, self.control))
     }
 }

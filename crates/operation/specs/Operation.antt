@@ -171,3 +171,4 @@ isDiscovered (Step.KeepaliveOver a) = false
 isDiscovered (Step.Expired e) = false
 isDiscovered (Step.LeaveTaken i) = false
 isDiscovered (Step.StatusTaken i) = false
+isDiscovered Step.PageWritten = false

@@ -117,6 +117,7 @@ pub enum Step {
     Expired(bool),
     LeaveTaken(LeaveIndicationSlot),
     StatusTaken(StatusIndicationSlot),
+    PageWritten,
 }
 
 // What a decision does with the candidates: nothing; the next one is tried; the next one is made the parent and tried; the one being tried becomes the parent.
@@ -294,5 +295,6 @@ pub fn is_discovered(step: Step) -> bool
         Step::Expired(_) => false,
         Step::LeaveTaken(_) => false,
         Step::StatusTaken(_) => false,
+        Step::PageWritten => false,
     }
 }

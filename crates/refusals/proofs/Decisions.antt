@@ -46,6 +46,7 @@ Uses (Step.KeepaliveOver x) n = n ≡ 0
 Uses (Step.Expired x) n = n ≡ 0
 Uses (Step.LeaveTaken x) n = n ≡ 0
 Uses (Step.StatusTaken x) n = n ≡ 0
+Uses Step.PageWritten n = n ≡ 0
 
 abbrev pub Made : Decision → Type 0
 Made d = Uses (d .step) (d .«polls_used»)

@@ -3,9 +3,10 @@ use Prim.Native.Nat.{ℕ, _<_}
 use mathlib.Core.Path.{_≡_, refl, sym, ap, subst, subst⁻¹, _∙_}
 use mathlib.Core.Bool.{Bool, true, false, cond, false≢true}
 use mathlib.Core.List.{List, [], _∷_}
-use mathlib.Core.Logic.{inl, inr, _↔_}
+use mathlib.Core.Logic.{_⊎_, inl, inr, ⊎-elim, _↔_}
 use native.Mathlib.Omega.{arith}
 use lib.Dec.{eqb, ltb}
+use lib.ListN.{length}
 use Rattle.lists.proofs.Conditions.{by-cases}
 use Rattle.mlme.specs.Mlme.{descriptorsOf}
 use Rattle.discovery.specs.Discovery.{shortAddressed}
@@ -14,7 +15,7 @@ use Rattle.management.specs.declared.NlmeJoinRequest.{NlmeJoinRequest}
 use Rattle.management.specs.declared.PollAnswer.{PollAnswer}
 use Rattle.received.specs.declared.Then.{Then}
 use Rattle.parent_timer.specs.declared.ParentTimer.{ParentTimer}
-use Rattle.operation.specs.Operation.{For, awaited, unawaited, scanFor, associationFor, transmissionFor, receptionFor}
+use Rattle.operation.specs.Operation.{telling, For, awaited, unawaited, scanFor, associationFor, transmissionFor, receptionFor}
 use Rattle.operation.specs.declared.Purpose.{Purpose}
 use Rattle.operation.specs.declared.ScanFor.{ScanFor}
 use Rattle.operation.specs.declared.TransmissionFor.{TransmissionFor}
@@ -22,9 +23,10 @@ use Rattle.operation.specs.declared.Phase.{Phase}
 use Rattle.operation.specs.declared.Step.{Step}
 use Rattle.operation.specs.declared.Decision.{Decision}
 use Rattle.exchange.specs.Exchange.{receiveStarted}
-use Rattle.node.specs.Looks.{finish}
+use Rattle.neighbor_page.specs.Page.{tooShort, written}
+use Rattle.node.specs.Looks.{potentialCleared, moved, finish, deciding}
 use Rattle.node.specs.Refusals.{refuse, bad, start, outcome}
-use Rattle.node.specs.Calls.{associate, joinBy, scanFailed, heard, scanHeard, scanOver, goOn, after, receptionOver, afterLeave, transmissionOver, Call, discovery, join, send, poll, receive, timeout, scan, association, transmission, reception, elapsed, takeLeave, takeStatus, made, answer, confirmBy, scanned, choose}
+use Rattle.node.specs.Calls.{associate, joinBy, scanFailed, heard, scanHeard, scanOver, goOn, after, receptionOver, afterLeave, transmissionOver, Call, discovery, join, send, poll, receive, timeout, scan, association, transmission, reception, elapsed, takeLeave, takeStatus, made, answer, confirmBy, scanned, choose, pageAnswer, pageLeft}
 use Rattle.node.specs.declared.State.{State}
 use Rattle.node.specs.declared.Answer.{Answer}
 use Rattle.node.specs.declared.Choice.{Choice}
@@ -160,6 +162,29 @@ lent-made t ms s = go (bad-told s)
     go (holds h) = turned h refl
     go (fails h) = passed h (done (carried false (withTimer t s) _ refl))
 
+-- the neighbour page
+page-made : (n : ℕ) (s : State) → Gets s (pageAnswer n s) ((5, Bad s) ∷ (6, n < 816) ∷ [])
+unfolding pageAnswer
+page-made n s = tested (bad-told s) (tested (above-told n 816) (done (carried false s _ refl)))
+
+page-kept : (b : List ℕ) (s : State) → Bad s ⊎ (length b < 816) → pageLeft b s ≡ b
+unfolding pageLeft written
+page-kept b s h = go (bad-told s) (above-told (length b) 816) _
+  where
+    go : {t u : Bool} → Tells (Bad s) t → Tells (length b < 816) u → (x : List ℕ) → cond t b (cond u b x) ≡ b
+    go (holds p) q x = refl
+    go (fails p) (holds q) x = refl
+    go (fails p) (fails q) x = absurd (⊎-elim p q h)
+
+page-reads : (n : ℕ) (s : State) → pageAnswer n s .state ≡ s
+unfolding pageAnswer finish refuse potentialCleared moved
+page-reads n s = go (bad s) (tooShort n)
+  where
+    go : (b t : Bool) → cond b (refuse 5 s) (cond t (refuse 6 s) (deciding s (telling Step.PageWritten (s .control)))) .state ≡ s
+    go true t = refl
+    go false true = refl
+    go false false = refl
+
 -- THE STATEMENT
 
 -- the number of a refusal
@@ -176,6 +201,7 @@ numberOf (Step.KeepaliveOver x) = 0
 numberOf (Step.Expired x) = 0
 numberOf (Step.LeaveTaken x) = 0
 numberOf (Step.StatusTaken x) = 0
+numberOf Step.PageWritten = 0
 
 turned-down : (s : State) (a : Answer) (k j : ℕ) → j ≡ k → a ≡ refuse j s → TurnedDown k s a
 unfolding refuse
@@ -233,4 +259,7 @@ demand-1 =
       record-kept = kept;
       choice = choice;
       unchosen = unchosen;
+      page = λ b s. by-numbers (page-made (length b) s);
+      page-kept = page-kept;
+      page-reads = page-reads;
     }

@@ -6,7 +6,7 @@ use mathlib.Core.Path.{_≡_}
 use mathlib.Core.Bool.{Bool, false}
 use mathlib.Core.List.{List, [], _∷_, map}
 use mathlib.Core.Logic.{_⊎_, _↔_}
-use lib.ListN.{take, drop}
+use lib.ListN.{length, take, drop}
 use Rattle.mlme.specs.declared.Address.{Address}
 use Rattle.parent_timer.specs.declared.ParentTimer.{ParentTimer}
 use Rattle.operation.specs.declared.Purpose.{Purpose}
@@ -15,7 +15,7 @@ use Rattle.operation.specs.declared.TransmissionFor.{TransmissionFor}
 use Rattle.operation.specs.declared.Phase.{Phase}
 use Rattle.operation.specs.declared.Note.{Note}
 use Rattle.operation.specs.declared.Step.{Step}
-use Rattle.node.specs.Calls.{Call, discovery, join, send, poll, receive, timeout, scan, association, transmission, reception, elapsed, takeLeave, takeStatus, answer, scanned, choose}
+use Rattle.node.specs.Calls.{Call, discovery, join, send, poll, receive, timeout, scan, association, transmission, reception, elapsed, takeLeave, takeStatus, answer, scanned, choose, pageAnswer, pageLeft}
 use Rattle.node.specs.declared.State.{State}
 use Rattle.node.specs.declared.Answer.{Answer}
 use Rattle.node.specs.declared.ScanOutcome.{ScanOutcome}
@@ -102,3 +102,7 @@ pub record Demand1 : Type 0 where
   pub choice : (n : ℕ) (router permit : Bool) (s : State)
       → ((choose n router permit s .refusal ≡ 5) ↔ Bad s) × ((choose n router permit s .refusal ≡ 0) ↔ (Bad s → ⊥))
   pub unchosen : (n : ℕ) (router permit : Bool) (s : State) → Bad s → choose n router permit s .list .count ≡ 0
+  -- the neighbour page in a lent buffer b (02, L1): "6, a lent buffer shorter than 816 bytes, after 5"; after a refusal every byte of b stays, and the state always does
+  pub page : (b : List ℕ) (s : State) → Answered s ((5, Bad s) ∷ (6, length b < 816) ∷ []) (pageAnswer (length b) s)
+  pub page-kept : (b : List ℕ) (s : State) → Bad s ⊎ (length b < 816) → pageLeft b s ≡ b
+  pub page-reads : (n : ℕ) (s : State) → pageAnswer n s .state ≡ s

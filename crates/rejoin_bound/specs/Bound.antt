@@ -61,6 +61,7 @@ isRefused (Step.KeepaliveOver x) = false
 isRefused (Step.Expired x) = false
 isRefused (Step.LeaveTaken x) = false
 isRefused (Step.StatusTaken x) = false
+isRefused Step.PageWritten = false
 
 abbrev pub accepted : Call → Answer → Bool
 accepted c a = not (isRefused (a .step)) && isOutcome c

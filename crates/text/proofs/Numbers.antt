@@ -3,16 +3,16 @@ use Prim.Native.Nat.{ℕ, zero, suc, _+_, _-_, _*_, _/_, _%_, _^_, _<_, _≤_, z
 use mathlib.Core.Path.{_≡_, refl, sym, ap, _∙_, subst}
 use mathlib.Core.Bool.{Bool, true, false, cond, not, false≢true, _&&_, _||_}
 use mathlib.Core.List.{List, [], _∷_, _++_, append-assoc}
-use native.Mathlib.Nat.{le-refl, le-trans, lt-of-lt-of-le, one-le-pow, pow-suc, pow-succ', pow-zero, div-lt-iff-lt-mul, mul-assoc, mul-one, one-mul, suc-mul, mul-le-mul-left, mul-le-mul-right}
+use native.Mathlib.Nat.{not-suc-le-zero, le-of-suc-le-suc, zero-add, suc-add, le-refl, le-trans, lt-of-lt-of-le, one-le-pow, pow-suc, pow-succ', pow-zero, div-lt-iff-lt-mul, mul-assoc, mul-one, one-mul, suc-mul, mul-le-mul-left, mul-le-mul-right}
 use native.Mathlib.Numerals.{add-one}
 use native.Mathlib.Omega.{arith}
 use borrow.Author.Tests.{lt-ltb, le-ltb, lt-leb, ltb-true, leb-true, eqb-true}
 use lib.Dec.{ltb, leb, eqb}
-use lib.ListN.{length, drop, getD, set, length-append}
-use lib.Seq.{drop-cons}
+use lib.ListN.{length, take, drop, getD, set, length-append, length-drop, length-replicate}
+use lib.Seq.{drop-cons, drop-drop, take-take, take-set-le}
 use Rattle.lists.specs.Lists.{every}
 use Rattle.lists.proofs.Bytes.{drop-set}
-use Rattle.text.specs.Text.{digitOf, valueFrom, numberFrom, decimalOf, hexOf, orZero, digitByte, decimalDigits, decimalText, hexText}
+use Rattle.text.specs.Text.{digitOf, valueFrom, numberFrom, decimalOf, hexOf, orZero, digitByte, decimalDigits, decimalText, hexText, spaces, rightText}
 use Rattle.text.specs.declared.OptionalNumber.{OptionalNumber}
 use Rattle.text.specs.declared.OptionalNumber.the-variants.{NoNumber, Number}
 
@@ -67,6 +67,32 @@ less-left (suc a) left t l =
 
 pub digits-last : (at left : ℕ) (bytes : List ℕ) → left < 10 → at < length bytes → drop at (set bytes at (digitByte left)) ≡ decimalDigits (suc at) left ++ drop (suc at) bytes
 digits-last at left bytes t h = drop-set bytes at (digitByte left) h ∙ sym (rw (lt-ltb left 10 t))
+
+-- what stands before the digits stays
+pub front-kept : (k at : ℕ) (a b : List ℕ) (d : ℕ) → k ≤ at → take (suc at) a ≡ take (suc at) b → take k (set a at d) ≡ take k b
+front-kept k at a b d h e = take-set-le k a at d h ∙ sym (take-take k (suc at) a (omega arith)) ∙ ap (take k) e ∙ take-take k (suc at) b (omega arith)
+
+-- the last characters of spaces and a text behind them
+drop-spaces : (m a : ℕ) (t : List ℕ) → drop m (spaces (m + a) ++ t) ≡ spaces a ++ t
+drop-spaces zero a t = ap (λ (n : ℕ). spaces n ++ t) (zero-add a)
+drop-spaces (suc m) a t = ap (λ (n : ℕ). drop (suc m) (spaces n ++ t)) (suc-add m a) ∙ drop-spaces m a t
+
+pub spaces-taken : (a n : ℕ) → a ≤ n → take a (spaces n) ≡ spaces a
+spaces-taken zero n h = refl
+spaces-taken (suc a) zero h = absurd (not-suc-le-zero h)
+spaces-taken (suc a) (suc n) h = ap (λ (l : List ℕ). 32 ∷ l) (spaces-taken a n (le-of-suc-le-suc h))
+
+pub right-filled : (k a w : ℕ) (t : List ℕ) → length t + a ≡ k → w ≤ k → drop (k - w) (spaces a ++ t) ≡ rightText w t
+right-filled k a w t p h =
+    let n = length t in
+    let e : (k - w) + w ≡ n + a = omega arith in
+    let s : n + (k - w) ≡ (k - w) + n = omega arith in
+    ap (drop (k - w)) (sym (drop-spaces n a t)) ∙ drop-drop (k - w) n (spaces (n + a) ++ t) ∙ ap (λ (i : ℕ). drop i (spaces (n + a) ++ t)) s
+    ∙ sym (drop-drop n (k - w) (spaces (n + a) ++ t)) ∙ ap (λ (i : ℕ). drop n (drop (k - w) (spaces i ++ t))) (sym e)
+    ∙ ap (drop n) (drop-spaces (k - w) w t)
+
+pub right-long : (w : ℕ) (t : List ℕ) → length (rightText w t) ≡ w
+right-long w t = simp (length-drop, length-append, length-replicate) (omega arith)
 
 -- a loop that writes hexadecimal digits from the last, down to a place: one digit more before those that stand from at on
 pub hex-next : (from at left : ℕ) (bytes : List ℕ) → from < at → at ≤ length bytes → hexText (at - from) left ++ drop at bytes ≡ hexText (at - 1 - from) (left / 16) ++ drop (at - 1) (set bytes (at - 1) (digitByte (left % 16)))

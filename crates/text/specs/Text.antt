@@ -5,7 +5,7 @@ use Prim.Native.String.{String, [] as []ˢ, _∷_ as _∷ˢ_}
 use mathlib.Core.Bool.{Bool, true, false, cond, not, _&&_, _||_}
 use mathlib.Core.List.{List, [], _∷_, _++_, foldl}
 use lib.Dec.{eqb, ltb, leb}
-use lib.ListN.{length, getD}
+use lib.ListN.{length, drop, getD, replicate}
 use Rattle.lists.specs.Lists.{every}
 use Rattle.text.specs.declared.OptionalNumber.{OptionalNumber}
 use Rattle.text.specs.declared.OptionalNumber.the-variants.{NoNumber, Number}
@@ -75,6 +75,13 @@ decimalText n = decimalDigits 10 n
 abbrev pub hexText : ℕ → ℕ → List ℕ
 hexText zero n = []
 hexText (suc k) n = hexText k (n / 16) ++ (digitByte (n % 16) ∷ [])
+
+abbrev pub spaces : ℕ → List ℕ
+spaces n = replicate n 32
+
+-- a text right-aligned in w characters: the last w of w spaces and the text
+abbrev pub rightText : ℕ → List ℕ → List ℕ
+rightText w t = drop (length t) (spaces w ++ t)
 
 -- a number that is read, and 0 where there is none
 abbrev pub orZero : OptionalNumber → ℕ

@@ -4,10 +4,10 @@ ghost use mathlib.Core.List.{[]};
 ghost use Prim.Native.Nat.{_+_, _-_, _≤_, _<_, min};
 ghost use mathlib.Core.Bool.{not, _||_};
 ghost use lib.Dec.{eqb, leb};
-ghost use lib.ListN.{length, drop, getD};
+ghost use lib.ListN.{length, take, drop, getD};
 ghost use lib.Seq.{sets};
 ghost use Rattle.lists.specs.Lists.{firstIndex};
-ghost use Rattle.text.specs.Text.{parts, fields, sameText, digitOf, numberFrom, decimalOf, hexOf, digitByte, decimalText, hexText};
+ghost use Rattle.text.specs.Text.{parts, fields, sameText, digitOf, numberFrom, decimalOf, hexOf, digitByte, decimalText, hexText, rightText};
 
 // A number that is read, or that there is none.
 pub enum OptionalNumber {
@@ -195,10 +195,10 @@ fn digit_byte(d: u8) -> u8
     if d < 10 { b'0' + d } else { b'a' + (d - 10) }
 }
 
-// A number in decimal at the end of ten bytes; the result is where it begins.
+// A number in decimal at the end of ten bytes; the result is where it begins, and what stands before it stays.
 fn fill_decimal(bytes: &mut [u8], n: u32) -> usize
     requires { ⌜ length (now bytes) ≡ 10 ⌝ }
-    ensures { λ r. ⌜ (r < 10) × (drop r (now (bytes .exit)) ≡ decimalText n) ⌝ }
+    ensures { λ r. ⌜ (r < 10) × (drop r (now (bytes .exit)) ≡ decimalText n) × (take r (now (bytes .exit)) ≡ take r (now (bytes .entry))) ⌝ }
 {
     let mut at = 9;
     let mut left = n;
@@ -220,11 +220,21 @@ pub fn write_decimal(out: &mut [u8], at: usize, n: u32) -> usize
     write(out, at, &bytes[a..])
 }
 
-// Where the last `digits` of sixteen bytes begin.
-fn last_of_sixteen(digits: usize) -> usize
-    ensures { λ r. ⌜ r ≡ 16 - digits ⌝ }
+// Where the last `wanted` of so many bytes begin.
+fn last_of(size: usize, wanted: usize) -> usize
+    ensures { λ r. ⌜ r ≡ size - wanted ⌝ }
 {
-    if digits <= 16 { 16 - digits } else { 0 }
+    if wanted <= size { size - wanted } else { 0 }
+}
+
+// Writes a number in decimal, right-aligned with spaces in so many characters but at most ten, at a place as far as they fit, and returns how many.
+pub fn write_decimal_right(out: &mut [u8], at: usize, n: u32, width: usize) -> usize
+    ensures { λ r. ⌜ (r ≡ length (rightText (min width 10) (decimalText n))) × (now (out .exit) ≡ sets (now (out .entry)) at (rightText (min width 10) (decimalText n))) ⌝ }
+{
+    let mut bytes = [b' '; 10];
+    fill_decimal(&mut bytes, n);
+    let start = last_of(10, width);
+    write(out, at, &bytes[start..])
 }
 
 // The last hexadecimal digits of a number, in sixteen bytes from a place to the end.
@@ -246,7 +256,7 @@ pub fn write_hex(out: &mut [u8], at: usize, n: u64, digits: usize) -> usize
     ensures { λ r. ⌜ (r ≡ length (hexText (min digits 16) n)) × (now (out .exit) ≡ sets (now (out .entry)) at (hexText (min digits 16) n)) ⌝ }
 {
     let mut bytes = [0u8; 16];
-    let from = last_of_sixteen(digits);
+    let from = last_of(16, digits);
     fill_hex(&mut bytes, from, n);
     write(out, at, &bytes[from..])
 }

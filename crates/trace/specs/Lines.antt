@@ -226,7 +226,7 @@ abbrev pub confirmLine : NlmeJoinConfirm → Line
 confirmLine c =
     lineBy kind.confirm false (word.confirm ∷ statusWord (c .status) ∷ c .«network_address» .0 ∷ c .«extended_pan_id» .0 ∷ c .channel ∷ [])
 
--- n is the number of networks, whose lines follow a discovery's answer
+-- n is the number of networks, whose lines follow a discovery's answer; a page that is written is printed as it stands, with no line before it
 unfoldable pub stepLine : Step → ℕ → Line
 stepLine (step.Refused k) n = fieldLine kind.number word.refused k
 stepLine (step.Ask r) n = requestLine r
@@ -240,6 +240,7 @@ stepLine (step.KeepaliveOver a) n = fieldLine kind.answer word.keepaliveAnswer (
 stepLine (step.Expired b) n = fieldLine kind.expired word.expired (flag b)
 stepLine (step.LeaveTaken slot) n = leaveLine (wordLine word.nothing) slot
 stepLine (step.StatusTaken slot) n = statusLine (wordLine word.nothing) slot
+stepLine step.PageWritten n = noLine
 
 -- a network that a discovery tells of
 unfoldable pub descriptorLine : NetworkDescriptor → Line

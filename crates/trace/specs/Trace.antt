@@ -5,20 +5,25 @@ use mathlib.Core.List.{List, [], _∷_, _++_, map, flatMap}
 use lib.Dec.{eqb}
 use lib.ListN.{take, length}
 use Rattle.nib.specs.Neighbors.{entriesOf}
+use Rattle.nib.specs.declared.NwkNeighbor.{NwkNeighbor}
+use Rattle.neighbor_page.specs.Page.{page}
 use Rattle.discovery.specs.declared.NetworkDescriptor.{NetworkDescriptor}
 use Rattle.discovery.specs.declared.NlmeNetworkDiscoveryConfirm.{NlmeNetworkDiscoveryConfirm}
 use Rattle.supervision.specs.Failures.{pairsOf}
 use Rattle.operation.specs.declared.Note.{Note}
 use Rattle.operation.specs.declared.Step.{Step}
+use Rattle.operation.specs.declared.Step.the-variants as step
 use Rattle.nlme.specs.declared.Nlme.{Nlme}
+use Rattle.node.specs.Calls.{pageAnswer}
 use Rattle.node.specs.declared.State.{State}
+use Rattle.node.specs.declared.Answer.{Answer}
 use Rattle.trace_lines.specs.declared.Line.{Line}
 use Rattle.trace_lines.specs.TraceLines.{lineOf, lineText}
 use Rattle.trace_input.specs.TraceInput.{callOf}
 use Rattle.trace_calls.specs.TraceCalls.{taken}
 use Rattle.trace_calls.specs.declared.Session.{Session}
 use Rattle.trace_calls.specs.declared.Said.{Said}
-use Rattle.trace_calls.specs.declared.Said.the-variants.{Bad, Nothing, Told, Chosen, Shown}
+use Rattle.trace_calls.specs.declared.Said.the-variants.{Bad, Nothing, Told, Chosen, Shown, Paged}
 use Rattle.trace_calls.specs.declared.Turn.{Turn}
 use Rattle.trace.specs.Kind as kind
 use Rattle.trace.specs.Lines.{resetLine, noteLine, stepLine, descriptorLine, nodeLine, entryLine, failureLine, slotLines, choiceLine, badLine}
@@ -50,12 +55,42 @@ linesBy Nothing n t = []
 linesBy (Told reset note step) n t = toldLines reset note step (t .networks)
 linesBy (Chosen refusal) n t = choiceLine refusal (t .list) ∷ []
 linesBy Shown n t = stateLines (t .session .state)
+linesBy (Paged k) n t = []
 
 abbrev pub saidLines : ℕ → Turn → List Line
 saidLines n t = linesBy (t .said) n t
 
+-- the page behind the line of a step, as it stands (compare/FORMAT.md, "Output")
+abbrev pub pageBytes : Step → List NwkNeighbor → List ℕ
+pageBytes step.PageWritten es = page es
+pageBytes (step.Refused k) es = []
+pageBytes (step.Ask r) es = []
+pageBytes step.Discovered es = []
+pageBytes step.DiscoveryFailed es = []
+pageBytes (step.Joined c) es = []
+pageBytes (step.Sent a) es = []
+pageBytes (step.Polled a) es = []
+pageBytes (step.NegotiationOver a) es = []
+pageBytes (step.KeepaliveOver a) es = []
+pageBytes (step.Expired b) es = []
+pageBytes (step.LeaveTaken slot) es = []
+pageBytes (step.StatusTaken slot) es = []
+
+-- what the call of the neighbour page prints that is lent a buffer of k bytes
+unfoldable pub pageText : ℕ → State → List ℕ
+pageText k s = someText (stepLine (pageAnswer k s .step) 0) ++ pageBytes (pageAnswer k s .step) (entriesOf (s .table))
+
+abbrev pub pageBy : Said → State → List ℕ
+pageBy (Paged k) s = pageText k s
+pageBy Bad s = []
+pageBy Nothing s = []
+pageBy (Told reset note step) s = []
+pageBy (Chosen refusal) s = []
+pageBy Shown s = []
+
+-- the lines of a turn, or its page
 unfoldable pub textOf : ℕ → Turn → List ℕ
-textOf n t = flatMap someText (saidLines n t)
+textOf n t = flatMap someText (saidLines n t) ++ pageBy (t .said) (t .session .state)
 
 -- the line is not of the format
 abbrev pub isBad : Said → Bool
@@ -64,6 +99,7 @@ isBad Nothing = false
 isBad (Told reset note step) = false
 isBad (Chosen refusal) = false
 isBad Shown = false
+isBad (Paged k) = false
 
 -- the call that a line says, made on the session
 unfoldable pub turnOf : List ℕ → Session → Turn

@@ -1,7 +1,7 @@
 // A trace answered line by line: a line read, its call made, and what is said of it printed. A line of kind 255 is no line.
 ghost use mathlib.Core.Path.{_≡_};
-ghost use Prim.Native.Nat.{_+_, _≤_, _<_};
-ghost use mathlib.Core.List.{[], _∷_, map};
+ghost use Prim.Native.Nat.{_+_, _≤_, _<_, min};
+ghost use mathlib.Core.List.{[], _∷_, map, flatMap};
 ghost use lib.ListN.{length, getD};
 ghost use lib.Seq.{sets};
 ghost use Rattle.lists.specs.Lists.{over};
@@ -50,7 +50,7 @@ ghost use Rattle.trace.specs.Lines.{
   choiceLine,
   badLine,
 };
-ghost use Rattle.trace.specs.Trace.{networksOf, toldLines, nlmeLines, stateLines, saidLines, someText, textOf, isBad, turnOf, numberAfter, printed, after};
+ghost use Rattle.trace.specs.Trace.{networksOf, toldLines, nlmeLines, stateLines, saidLines, someText, pageText, textOf, isBad, turnOf, numberAfter, printed, after};
 use candidates::CandidateList;
 use discovery::NetworkDescriptor;
 use discovery::NlmeNetworkDiscoveryConfirm;
@@ -716,6 +716,7 @@ fn step_line(step: Step, discovered: u8) -> Line
         Step::Expired(expired) => return field_line(kind::EXPIRED, word::EXPIRED, flag(expired)),
         Step::LeaveTaken(slot) => return leave_line(word_line(word::NOTHING), slot),
         Step::StatusTaken(slot) => return status_line(word_line(word::NOTHING), slot),
+        Step::PageWritten => return no_line(),
     }
 }
 
@@ -916,6 +917,7 @@ fn said_count(number: u32, turn: Turn) -> u8
         Said::Told(_, _, _) => return 3 + network_count(turn.networks),
         Said::Chosen(_) => return 1,
         Said::Shown => return state_count(turn.session.state),
+        Said::Paged(_) => return 0,
     }
 }
 
@@ -931,6 +933,7 @@ fn said_line(number: u32, turn: Turn, i: u8) -> Line
         Said::Told(reset, note, step) => return told_line(reset, note, step, turn.networks, i),
         Said::Chosen(refusal) => return choice_line(refusal, turn.list),
         Said::Shown => return state_line(turn.session.state, i),
+        Said::Paged(_) => return no_line(),
     }
 }
 
@@ -945,9 +948,9 @@ fn write_some(out: &mut [u8], at: usize, line: Line) -> usize
     trace_lines::write_line(out, at as u16, line)
 }
 
-// Writes what is printed of a turn.
-fn print(out: &mut [u8], number: u32, turn: Turn) -> usize
-    ensures { λ r. ⌜ (r ≡ length (textOf number turn)) × (r ≤ 16000) × (now (out .exit) ≡ sets (now (out .entry)) 0 (textOf number turn)) ⌝ }
+// Writes the lines of a turn.
+fn print_lines(out: &mut [u8], number: u32, turn: Turn) -> usize
+    ensures { λ r. ⌜ (r ≡ length (flatMap someText (saidLines number turn))) × (r ≤ 16000) × (now (out .exit) ≡ sets (now (out .entry)) 0 (flatMap someText (saidLines number turn))) ⌝ }
 {
     let count = said_count(number, turn);
     let mut written: usize = 0;
@@ -957,6 +960,42 @@ fn print(out: &mut [u8], number: u32, turn: Turn) -> usize
         i += 1;
     }
     written
+}
+
+// The bytes that are lent for a page: no line of the format asks for more than 1,024.
+fn lent_bytes(bytes: u16) -> usize
+    ensures { λ r. ⌜ r ≡ min bytes 1024 ⌝ }
+{
+    if bytes < 1024 {
+        return bytes as usize;
+    }
+    1024
+}
+
+// Lends the start of a buffer for a page, and writes the refusal there where the call is turned down.
+fn print_page(out: &mut [u8], state: State, bytes: u16) -> usize
+    requires { ⌜ 1024 ≤ length (now out) ⌝ }
+    ensures { λ r. ⌜ (r ≡ length (pageText bytes state)) × (r ≤ 16000) × (now (out .exit) ≡ sets (now (out .entry)) 0 (pageText bytes state)) ⌝ }
+{
+    let lent = lent_bytes(bytes);
+    let answer = state.write_neighbor_page(&mut out[..lent]);
+    let step = answer.step;
+    let Step::PageWritten = step else {
+        return write_some(out, 0, step_line(step, 0));
+    };
+    neighbor_page::PAGE_BYTES
+}
+
+// Writes what is printed of a turn.
+fn print(out: &mut [u8], number: u32, turn: Turn) -> usize
+    requires { ⌜ 1024 ≤ length (now out) ⌝ }
+    ensures { λ r. ⌜ (r ≡ length (textOf number turn)) × (r ≤ 16000) × (now (out .exit) ≡ sets (now (out .entry)) 0 (textOf number turn)) ⌝ }
+{
+    let said = turn.said;
+    let Said::Paged(bytes) = said else {
+        return print_lines(out, number, turn);
+    };
+    print_page(out, turn.session.state, bytes)
 }
 
 // A line answered.
@@ -970,6 +1009,7 @@ fn is_bad(said: Said) -> bool
         Said::Told(_, _, _) => return false,
         Said::Chosen(_) => return false,
         Said::Shown => return false,
+        Said::Paged(_) => return false,
     }
 }
 

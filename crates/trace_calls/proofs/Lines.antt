@@ -13,7 +13,7 @@ use Rattle.node.specs.Calls.{scanned}
 use Rattle.node.specs.Calls as node
 use Rattle.node.specs.declared.State.{State}
 use Rattle.trace_input.specs.declared.Call.{Call}
-use Rattle.trace_input.specs.declared.Call.the-variants.{Bad, Node, Entry, Failure, Discovery, Join, Send, Poll, Receive, Negotiate, Keepalive, Scan, Beacon, ScanFailed, Association, Transmission, Reception, Tick, TakeLeave, TakeStatus, Choose, PrintState}
+use Rattle.trace_input.specs.declared.Call.the-variants.{Bad, Node, Entry, Failure, Discovery, Join, Send, Poll, Receive, Negotiate, Keepalive, Scan, Beacon, ScanFailed, Association, Transmission, Reception, Tick, TakeLeave, TakeStatus, Choose, PrintState, Page}
 use Rattle.trace_input.proofs.Call.{the-type}
 use Rattle.trace_calls.specs.declared.Kind.{Kind}
 use Rattle.trace_calls.specs.declared.Kind.the-variants.{NoLine, NodeLine, EntryLine, PairLine, ScanLine, BeaconLine, CallLine}
@@ -25,16 +25,16 @@ use Rattle.trace_calls.specs.Steps.{stateAfter, heardOf, answer, called,
 
 -- the tags of the lines that are left over
 abbrev calls : List ℕ
-calls = 4 ∷ 5 ∷ 6 ∷ 7 ∷ 8 ∷ 9 ∷ 10 ∷ 14 ∷ 15 ∷ 16 ∷ 17 ∷ 18 ∷ 19 ∷ 20 ∷ 21 ∷ []
+calls = 4 ∷ 5 ∷ 6 ∷ 7 ∷ 8 ∷ 9 ∷ 10 ∷ 14 ∷ 15 ∷ 16 ∷ 17 ∷ 18 ∷ 19 ∷ 20 ∷ 21 ∷ 22 ∷ []
 
 abbrev not-state : List ℕ
-not-state = 0 ∷ 4 ∷ 5 ∷ 6 ∷ 7 ∷ 8 ∷ 9 ∷ 10 ∷ 11 ∷ 12 ∷ 13 ∷ 14 ∷ 15 ∷ 16 ∷ 17 ∷ 18 ∷ 19 ∷ 20 ∷ 21 ∷ []
+not-state = 0 ∷ 4 ∷ 5 ∷ 6 ∷ 7 ∷ 8 ∷ 9 ∷ 10 ∷ 11 ∷ 12 ∷ 13 ∷ 14 ∷ 15 ∷ 16 ∷ 17 ∷ 18 ∷ 19 ∷ 20 ∷ 21 ∷ 22 ∷ []
 
 abbrev not-scan : List ℕ
-not-scan = 0 ∷ 1 ∷ 2 ∷ 3 ∷ 4 ∷ 5 ∷ 6 ∷ 7 ∷ 8 ∷ 9 ∷ 10 ∷ 13 ∷ 14 ∷ 15 ∷ 16 ∷ 17 ∷ 18 ∷ 19 ∷ 20 ∷ 21 ∷ []
+not-scan = 0 ∷ 1 ∷ 2 ∷ 3 ∷ 4 ∷ 5 ∷ 6 ∷ 7 ∷ 8 ∷ 9 ∷ 10 ∷ 13 ∷ 14 ∷ 15 ∷ 16 ∷ 17 ∷ 18 ∷ 19 ∷ 20 ∷ 21 ∷ 22 ∷ []
 
 abbrev unasked : List ℕ
-unasked = 0 ∷ 1 ∷ 2 ∷ 3 ∷ 11 ∷ 12 ∷ 13 ∷ 19 ∷ 20 ∷ 21 ∷ []
+unasked = 0 ∷ 1 ∷ 2 ∷ 3 ∷ 11 ∷ 12 ∷ 13 ∷ 19 ∷ 20 ∷ 21 ∷ 22 ∷ []
 
 abbrev asked : List ℕ
 asked = 0 ∷ 1 ∷ 2 ∷ 3 ∷ 4 ∷ 5 ∷ 6 ∷ 7 ∷ 8 ∷ 9 ∷ 10 ∷ 11 ∷ 12 ∷ 13 ∷ 14 ∷ 15 ∷ 16 ∷ 17 ∷ 18 ∷ 19 ∷ []
@@ -62,6 +62,7 @@ kind-other TakeLeave h = refl
 kind-other TakeStatus h = refl
 kind-other (Choose x y z) h = refl
 kind-other PrintState h = refl
+kind-other (Page x) h = refl
 
 pub state-other : (c : Call) (st : State) → OneOf not-state (tagOf the-type c) → st ≡ stateAfter c st
 unfolding stateAfter
@@ -87,6 +88,7 @@ state-other TakeLeave st h = refl
 state-other TakeStatus st h = refl
 state-other (Choose x y z) st h = refl
 state-other PrintState st h = refl
+state-other (Page x) st h = refl
 
 pub heard-other : (c : Call) (l : PanDescriptorList) (n : ℕ) → OneOf not-scan (tagOf the-type c) → record { missing = 0; outcome = record { failed = true; list = unheard 0 } } ≡ heardOf l n c
 unfolding heardOf
@@ -112,6 +114,7 @@ heard-other TakeLeave l n h = refl
 heard-other TakeStatus l n h = refl
 heard-other (Choose x y z) l n h = refl
 heard-other PrintState l n h = refl
+heard-other (Page x) l n h = refl
 
 pub answer-other : (c : Call) (st : State) → OneOf unasked (tagOf the-type c) → node.answer st node.takeStatus ≡ answer c st
 unfolding answer
@@ -137,6 +140,7 @@ answer-other TakeLeave st h = absurd (miss unasked 18 tt h)
 answer-other TakeStatus st h = refl
 answer-other (Choose x y z) st h = refl
 answer-other PrintState st h = refl
+answer-other (Page x) st h = refl
 
 pub called-other : (c : Call) (s : Session) → OneOf asked (tagOf the-type c) → told (answer c (s .state)) (s .scan) ≡ called c s
 unfolding called
@@ -162,6 +166,7 @@ called-other TakeLeave s h = refl
 called-other TakeStatus s h = refl
 called-other (Choose x y z) s h = absurd (miss asked 20 tt h)
 called-other PrintState s h = absurd (miss asked 21 tt h)
+called-other (Page x) s h = absurd (miss asked 22 tt h)
 
 -- the last arm by kind: lines that set the state up
 abbrev setting : List ℕ
@@ -205,6 +210,7 @@ by-kind TakeLeave s h = refl
 by-kind TakeStatus s h = refl
 by-kind (Choose x y z) s h = refl
 by-kind PrintState s h = refl
+by-kind (Page x) s h = refl
 
 -- a line that may not come, and one that may, by its kind and the test that was made of it
 pub refused-line : (c : Call) (s : Session) {k : Kind} {b : Bool} → k ≡ kindOf c → b ≡ fitsAt k (s .stage) (s .missing) (s .state .table .count) (pairs (s .state) .count) → b ≡ false → bad s ≡ taken c s

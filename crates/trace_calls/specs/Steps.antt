@@ -9,13 +9,13 @@ use Rattle.node.specs.Calls as node
 use Rattle.node.specs.declared.State.{State}
 use Rattle.node.specs.declared.Answer.{Answer}
 use Rattle.trace_input.specs.declared.Call.{Call}
-use Rattle.trace_input.specs.declared.Call.the-variants.{Bad, Node, Entry, Failure, Discovery, Join, Send, Poll, Receive, Negotiate, Keepalive, Scan, Beacon, ScanFailed, Association, Transmission, Reception, Tick, TakeLeave, TakeStatus, Choose, PrintState}
+use Rattle.trace_input.specs.declared.Call.the-variants.{Bad, Node, Entry, Failure, Discovery, Join, Send, Poll, Receive, Negotiate, Keepalive, Scan, Beacon, ScanFailed, Association, Transmission, Reception, Tick, TakeLeave, TakeStatus, Choose, PrintState, Page}
 use Rattle.trace_calls.specs.declared.Kind.{Kind}
 use Rattle.trace_calls.specs.declared.Kind.the-variants.{NoLine, NodeLine, EntryLine, PairLine, ScanLine, BeaconLine, CallLine}
 use Rattle.trace_calls.specs.declared.ScanSoFar.{ScanSoFar}
 use Rattle.trace_calls.specs.declared.Session.{Session}
 use Rattle.trace_calls.specs.declared.Turn.{Turn}
-use Rattle.trace_calls.specs.TraceCalls.{begun, pairs, withPair, withPairs, unheard, hearing, withBeacon, setUp, nothing, told, scanAfter, chosen, shown}
+use Rattle.trace_calls.specs.TraceCalls.{begun, pairs, withPair, withPairs, unheard, hearing, withBeacon, setUp, nothing, told, scanAfter, chosen, shown, paged}
 
 -- the state after a line that sets it up; it stays for any other
 unfoldable pub stateAfter : Call → State → State
@@ -41,6 +41,7 @@ stateAfter TakeLeave st = st
 stateAfter TakeStatus st = st
 stateAfter (Choose x y z) st = st
 stateAfter PrintState st = st
+stateAfter (Page x) st = st
 
 -- what a line of a scan tells, where so many beacons are missing; a scan that failed for any other
 unfoldable pub heardOf : PanDescriptorList → ℕ → Call → ScanSoFar
@@ -66,6 +67,7 @@ heardOf l n TakeLeave = record { missing = 0; outcome = record { failed = true; 
 heardOf l n TakeStatus = record { missing = 0; outcome = record { failed = true; list = unheard 0 } }
 heardOf l n (Choose x y z) = record { missing = 0; outcome = record { failed = true; list = unheard 0 } }
 heardOf l n PrintState = record { missing = 0; outcome = record { failed = true; list = unheard 0 } }
+heardOf l n (Page x) = record { missing = 0; outcome = record { failed = true; list = unheard 0 } }
 
 -- what the node answers to a call; for any other line, what it answers to the taking of a status indication
 unfoldable pub answer : Call → State → Answer
@@ -91,6 +93,7 @@ answer TakeLeave st = node.answer st node.takeLeave
 answer TakeStatus st = node.answer st node.takeStatus
 answer (Choose x y z) st = node.answer st node.takeStatus
 answer PrintState st = node.answer st node.takeStatus
+answer (Page x) st = node.answer st node.takeStatus
 
 -- a line that is none of the state and none of a scan
 unfoldable pub called : Call → Session → Turn
@@ -116,6 +119,7 @@ called TakeLeave s = told (answer TakeLeave (s .state)) (s .scan)
 called TakeStatus s = told (answer TakeStatus (s .state)) (s .scan)
 called (Choose x y z) s = chosen (x .0) y z s
 called PrintState s = shown s
+called (Page x) s = paged x s
 
 -- a line by its kind
 abbrev pub byKind : Kind → Call → Session → Turn

@@ -35,7 +35,7 @@ use Rattle.node.specs.declared.ScanOutcome.{ScanOutcome}
 use Rattle.node.specs.declared.Choice.{Choice}
 use Rattle.trace_input.specs.declared.NodeFields.{NodeFields}
 use Rattle.trace_input.specs.declared.Call.{Call}
-use Rattle.trace_input.specs.declared.Call.the-variants.{Bad, Node, Entry, Failure, Discovery, Join, Send, Poll, Receive, Negotiate, Keepalive, Scan, Beacon, ScanFailed, Association, Transmission, Reception, Tick, TakeLeave, TakeStatus, Choose, PrintState}
+use Rattle.trace_input.specs.declared.Call.the-variants.{Bad, Node, Entry, Failure, Discovery, Join, Send, Poll, Receive, Negotiate, Keepalive, Scan, Beacon, ScanFailed, Association, Transmission, Reception, Tick, TakeLeave, TakeStatus, Choose, PrintState, Page}
 use Rattle.trace_calls.specs.declared.Stage.{Stage}
 use Rattle.trace_calls.specs.declared.Stage.the-variants.{NoNode, SettingUp, Running}
 use Rattle.trace_calls.specs.declared.Kind.{Kind}
@@ -203,6 +203,10 @@ chosen n router permit s = choiceTold (choose n router permit (s .state)) s
 unfoldable pub shown : Session → Turn
 shown s = saying said.Shown (running (s .state) (s .scan))
 
+-- a page, by the length of the lent buffer; the call leaves the state as it is
+unfoldable pub paged : ℕ → Session → Turn
+paged n s = saying (said.Paged n) (running (s .state) (s .scan))
+
 -- each line of the format, and the call that it makes
 unfoldable pub made : Call → Session → Turn
 made Bad s = bad s
@@ -227,6 +231,7 @@ made TakeLeave s = told (node.answer (s .state) node.takeLeave) (s .scan)
 made TakeStatus s = told (node.answer (s .state) node.takeStatus) (s .scan)
 made (Choose n router permit) s = chosen (n .0) router permit s
 made PrintState s = shown s
+made (Page n) s = paged n s
 
 -- Which lines may come
 
@@ -253,6 +258,7 @@ kindOf TakeLeave = CallLine
 kindOf TakeStatus = CallLine
 kindOf (Choose n router permit) = CallLine
 kindOf PrintState = CallLine
+kindOf (Page n) = CallLine
 
 -- "`e` and `f` lines follow it, at most 16 each"
 abbrev pub hasRoom : Stage → ℕ → Bool

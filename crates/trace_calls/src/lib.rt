@@ -61,13 +61,14 @@ pub struct Session {
     pub scan: PanDescriptorList,
 }
 
-// What a line says: that it is not of the format; nothing; an answer, with its reset note; a choice of candidates, with its refusal, 0 for none; the state.
+// What a line says: that it is not of the format; nothing; an answer, with its reset note; a choice of candidates, with its refusal, 0 for none; the state; a page, by the length of the lent buffer.
 pub enum Said {
     Bad,
     Nothing,
     Told(bool, Note, Step),
     Chosen(u8),
     Shown,
+    Paged(u16),
 }
 
 // The session after a line, and what the line says; with the networks that a discovery found and the candidates that were chosen, none of them for any other line.
@@ -473,6 +474,13 @@ impl Session {
                 0,
                 self.scan,
                 Said::Shown,
+            ),
+            Call::Page(length) => return turn_saying(
+                self.state,
+                Stage::Running,
+                0,
+                self.scan,
+                Said::Paged(length),
             ),
             _ => return told(self.scan, answer(self.state, call), no_networks()),
         }

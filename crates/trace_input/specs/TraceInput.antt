@@ -235,6 +235,7 @@ calls l =
     ∷ call.Choose (extendedPanId 1 l) (flag 2 l) (flag 3 l)  -- candidates
     ∷ call.PrintState  -- state
     ∷ call.Failure (failureOf l)  -- f
+    ∷ call.Page (bits16 1 l)  -- page
     ∷ []
 
 -- what a line says; one of another kind is not of the format

@@ -5,7 +5,7 @@ ghost use Rattle.mlme.specs.declared.Address.the-variants.{Short, Extended};
 ghost use Rattle.join.specs.declared.AssociationOutcome.the-variants.{Associated};
 ghost use Rattle.node.specs.declared.ReceptionOutcome.the-variants.{Received};
 ghost use Rattle.trace_input.specs.declared.Call.the-variants.{Reception};
-ghost use Rattle.trace_input.specs.TraceInput.{nibOf, nodeOf, deviceTypeOf, entryOf, entryWith, failureOf, rangeFrom, rejoinNetworkOf, joinRequestOf, stackProfileOf, beaconOf, bits32, flag, extendedPanId, panId, short, ieee, associationOf, ieeeOf, sourceOf, rejoinResponseOf, timeoutResponseOf, leaveOptionsOf, callOf};
+ghost use Rattle.trace_input.specs.TraceInput.{nibOf, nodeOf, deviceTypeOf, entryOf, entryWith, failureOf, rangeFrom, rejoinNetworkOf, joinRequestOf, stackProfileOf, beaconOf, bits16, bits32, flag, extendedPanId, panId, short, ieee, associationOf, ieeeOf, sourceOf, rejoinResponseOf, timeoutResponseOf, leaveOptionsOf, callOf};
 use frame::LeaveOptions;
 use frame::ReceivedFrame;
 use frame::Source;
@@ -67,6 +67,8 @@ pub enum Call {
     TakeStatus,
     Choose(ExtendedPanId, bool, bool),
     PrintState,
+    // the length of the lent buffer
+    Page(u16),
 }
 
 // Arguments of calls. A field is read modulo the size of its type: the fields of a line that was read fit their types.
@@ -342,6 +344,13 @@ fn number_of(line: Line) -> u32
     (n[1] % 4294967296) as u32
 }
 
+fn length_of(line: Line) -> u16
+    ensures { λ r. ⌜ r ≡ bits16 1 line ⌝ }
+{
+    let n = line.numbers;
+    (n[1] % 65536) as u16
+}
+
 // Calls by the kinds of their lines, in parts, so that each is proved by itself.
 
 fn call_of_0_to_6(line: Line) -> Call
@@ -428,6 +437,7 @@ fn call_of_27_and_more(line: Line) -> Call
         29 => return Call::Choose(network_of(line), flag_of(line, 2), flag_of(line, 3)),
         30 => return Call::PrintState,
         31 => return Call::Failure(failure_of(line)),
+        32 => return Call::Page(length_of(line)),
         _ => return Call::Bad,
     }
 }

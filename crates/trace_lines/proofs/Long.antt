@@ -5,7 +5,7 @@ use mathlib.Core.Bool.{Bool, true, false, cond, false≢true, _&&_}
 use mathlib.Core.List.{List, [], _∷_, zipWith}
 use native.Mathlib.Omega.{arith}
 use borrow.Author.Tests.{eqb-true, leb-true, ltb-true, le-ltb}
-use lib.Dec.{eqb, leb}
+use lib.Dec.{eqb, leb, ltb}
 use lib.ListN.{length}
 use Rattle.lists.specs.Lists.{every, firstIndex}
 use Rattle.lists.proofs.Conditions.{pick-false, split}
@@ -23,15 +23,16 @@ empty-line = refl
 
 -- a decimal number has at most ten digits
 greatest-short : (letter : ℕ) → greatest letter < 10 ^ 10
-greatest-short letter = go (eqb letter _) (eqb letter _) (eqb letter _) (eqb letter _) (eqb letter _)
+greatest-short letter =
+    one (eqb letter _) 1 _ refl
+    (one (eqb letter _) 3 _ refl
+    (one (eqb letter _) 15 _ refl
+    (one (eqb letter _) 255 _ refl
+    (one (eqb letter _) 1024 _ refl (one (eqb letter _) 65535 4294967295 refl (ltb-true 4294967295 (10 ^ 10) refl))))))
   where
-    go : (f k n b s : Bool) → cond f 1 (cond k 3 (cond n 15 (cond b 255 (cond s 65535 4294967295)))) < 10 ^ 10
-    go true k n b s = ltb-true 1 (10 ^ 10) refl
-    go false true n b s = ltb-true 3 (10 ^ 10) refl
-    go false false true b s = ltb-true 15 (10 ^ 10) refl
-    go false false false true s = ltb-true 255 (10 ^ 10) refl
-    go false false false false true = ltb-true 65535 (10 ^ 10) refl
-    go false false false false false = ltb-true 4294967295 (10 ^ 10) refl
+    one : (b : Bool) (m n : ℕ) → ltb m (10 ^ 10) ≡ true → n < 10 ^ 10 → cond b m n < 10 ^ 10
+    one true m n h less = ltb-true m (10 ^ 10) h
+    one false m n h less = less
 
 -- a field in which a letter's number stands has at most 16 bytes
 number-size : (letter : ℕ) (f : List ℕ) → isNumber (numberOf letter f) ≡ true → length f ≤ 16

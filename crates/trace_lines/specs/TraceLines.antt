@@ -39,13 +39,14 @@ greatest letter =
     (cond (eqb letter (code "k")) 3
     (cond (eqb letter (code "n")) 15
     (cond (eqb letter (code "b")) 255
-    (cond (eqb letter (code "s")) 65535 4294967295))))
+    (cond (eqb letter (code "p")) 1024
+    (cond (eqb letter (code "s")) 65535 4294967295)))))
 
 -- the kinds of lines that are read, numbered from 0: a word, a space, and the letters of the further fields
 abbrev pub inputKinds : List (List ℕ)
 inputKinds =
     parts 59
-    (bytes "e G4bfsbbbbfGbbfbffb4;b b424Gfffnbbnnnn;b b43GGfffnbbnnnn;nodata ;sent ;tick m;node 4GG4bbbbbbfbbm;scan m;sendfail ;scanfail ;pollfail ;associate b4G;associatefail ;undecodable ;data 4o;rejoinresponse 4o4b;timeoutresponse 4obb;leave 4o4fff;command 4o;otherframe ;discovery bbb;join kGbfbbb;send 4f;poll ;receive ;negotiate ;keepalive ;takeleave ;takestatus ;candidates Gff;state ;f 4b")
+    (bytes "e G4bfsbbbbfGbbfbffb4;b b424Gfffnbbnnnn;b b43GGfffnbbnnnn;nodata ;sent ;tick m;node 4GG4bbbbbbfbbm;scan m;sendfail ;scanfail ;pollfail ;associate b4G;associatefail ;undecodable ;data 4o;rejoinresponse 4o4b;timeoutresponse 4obb;leave 4o4fff;command 4o;otherframe ;discovery bbb;join kGbfbbb;send 4f;poll ;receive ;negotiate ;keepalive ;takeleave ;takestatus ;candidates Gff;state ;f 4b;page p")
 
 abbrev pub wordOf : List ℕ → List ℕ
 wordOf kind = getD (parts 32 kind) 0 []

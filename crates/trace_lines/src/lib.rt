@@ -11,8 +11,8 @@ ghost use Rattle.trace_lines.specs.Steps.{isTable, readAs, readKind, tab
 use text::OptionalNumber;
 
 // The kinds of lines that are read: a word, a space, and a letter for each further field.
-const INPUT: [u8; 384] =
-    *b"e G4bfsbbbbfGbbfbffb4;b b424Gfffnbbnnnn;b b43GGfffnbbnnnn;nodata ;sent ;tick m;node 4GG4bbbbbbfbbm;scan m;sendfail ;scanfail ;pollfail ;associate b4G;associatefail ;undecodable ;data 4o;rejoinresponse 4o4b;timeoutresponse 4obb;leave 4o4fff;command 4o;otherframe ;discovery bbb;join kGbfbbb;send 4f;poll ;receive ;negotiate ;keepalive ;takeleave ;takestatus ;candidates Gff;state ;f 4b";
+const INPUT: [u8; 391] =
+    *b"e G4bfsbbbbfGbbfbffb4;b b424Gfffnbbnnnn;b b43GGfffnbbnnnn;nodata ;sent ;tick m;node 4GG4bbbbbbfbbm;scan m;sendfail ;scanfail ;pollfail ;associate b4G;associatefail ;undecodable ;data 4o;rejoinresponse 4o4b;timeoutresponse 4obb;leave 4o4fff;command 4o;otherframe ;discovery bbb;join kGbfbbb;send 4f;poll ;receive ;negotiate ;keepalive ;takeleave ;takestatus ;candidates Gff;state ;f 4b;page p";
 
 // The kinds of lines that are written: a letter for each field.
 const OUTPUT: [u8; 152] =
@@ -52,6 +52,7 @@ fn most(letter: u8) -> u32
         b'k' => 3,
         b'n' => 15,
         b'b' => 255,
+        b'p' => 1024,
         b's' => 65535,
         _ => 4294967295,
     }

@@ -4,14 +4,14 @@ use Prim.Native.Nat.{ℕ, suc, _-_, _/_, _^_, _<_, _≤_}
 use mathlib.Core.Path.{_≡_, refl, sym, ap, _∙_}
 use mathlib.Core.List.{List, _++_, append-nil}
 use native.Mathlib.Nat.{mod-lt}
-use lib.ListN.{length, drop, set, length-set, drop-of-length-le}
+use lib.ListN.{length, take, drop, set, length-set, drop-of-length-le}
 use Rattle.text.specs.Text.{decimalDigits, decimalText}
-use Rattle.text.proofs.Numbers.{digits-next, less-left, digits-last}
+use Rattle.text.proofs.Numbers.{digits-next, less-left, digits-last, front-kept}
 use Rattle.text.proofs.fill_decimal.Statement.{statement}
 use Rattle.text.proofs.fill_decimal.Tie as tie
 
 abbrev Inv-loop : tie.InvT-loop
-Inv-loop bytes₀ n at₀ left₀ bytes at left = (at < 10) × (left < 10 ^ suc at) × (length bytes ≡ 10) × (decimalText n ≡ decimalDigits (suc at) left ++ drop (suc at) bytes)
+Inv-loop bytes₀ n at₀ left₀ bytes at left = (at < 10) × (left < 10 ^ suc at) × (length bytes ≡ 10) × (decimalText n ≡ decimalDigits (suc at) left ++ drop (suc at) bytes) × (take (suc at) bytes ≡ take (suc at) bytes₀)
 
 abbrev μ-loop : tie.MeasureT-loop
 μ-loop bytes₀ n at₀ left₀ bytes at left = at
@@ -23,7 +23,7 @@ loop-holds c =
     let bytes = s .args .bytes .now in
     let p : 10 ^ 10 ≡ 10000000000 = refl in
     let h : length bytes ≤ 10 = omega (arith, s .pre) in
-    (omega arith, omega (arith, p), s .pre, sym (ap (λ (z : List ℕ). decimalDigits 10 (s .args .n) ++ z) (drop-of-length-le bytes h) ∙ append-nil (decimalDigits 10 (s .args .n))))
+    (omega arith, omega (arith, p), s .pre, sym (ap (λ (z : List ℕ). decimalDigits 10 (s .args .n) ++ z) (drop-of-length-le bytes h) ∙ append-nil (decimalDigits 10 (s .args .n))), refl)
 
 cast-digit-byte : tie.Need-cast-digit-byte Inv-loop μ-loop
 cast-digit-byte c = omega (arith, mod-lt (c .before .loop .left) {m = 10} (omega arith))
@@ -55,6 +55,7 @@ loop-again c =
       less-left at left t (b .loop .inv .1) .1,
       simp length-set (b .loop .inv .2),
       b .loop .inv .3 ∙ digits-next at left (b .loop .bytes) t (b .loop .inv .1) h ∙ ap (λ (d : ℕ). decimalDigits (suc (at - 1)) (left / 10) ++ drop (suc (at - 1)) (set (b .loop .bytes) at d)) (sym (c .digit-byte .ensures)),
+      front-kept (suc (at - 1)) at (b .loop .bytes) (b .before .before .args .bytes .now) (c .digit-byte .result) (omega (arith, less-left at left t (b .loop .inv .1) .0)) (b .loop .inv .4),
     )
 
 cast-digit-byte-2 : tie.Need-cast-digit-byte-2 Inv-loop μ-loop
@@ -75,8 +76,11 @@ returns c =
     let at = b .loop .at in
     let left = b .loop .left in
     let t : left < 10 = omega (arith, c .before .loop-test .left) in
-    let h : at < length (b .loop .bytes) = omega arith in
-    (b .loop .inv .0, ap (λ (d : ℕ). drop at (set (b .loop .bytes) at d)) (c .digit-byte2 .ensures) ∙ digits-last at left (b .loop .bytes) t h ∙ sym (b .loop .inv .3))
+    let h : at < length (b .loop .bytes) = omega arith in (
+      b .loop .inv .0,
+      ap (λ (d : ℕ). drop at (set (b .loop .bytes) at d)) (c .digit-byte2 .ensures) ∙ digits-last at left (b .loop .bytes) t h ∙ sym (b .loop .inv .3),
+      front-kept at at (b .loop .bytes) (b .before .before .args .bytes .now) (c .digit-byte2 .result) (omega arith) (b .loop .inv .4),
+    )
 
 pub fill-decimal-spec : {M : Type 1} → statement M
 fill-decimal-spec =

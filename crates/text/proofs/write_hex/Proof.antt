@@ -9,8 +9,8 @@ use borrow.Author.Needs.{needs}
 use Rattle.text.proofs.write_hex.Statement.{statement}
 use Rattle.text.proofs.write_hex.Tie as tie
 
-last-of-sixteen-requires : tie.Need-last-of-sixteen-requires
-last-of-sixteen-requires c κs = search needs
+last-of-requires : tie.Need-last-of-requires
+last-of-requires c κs = search needs
 
 slice-aggregate-fill-hex : tie.Need-slice-aggregate-fill-hex
 slice-aggregate-fill-hex c = search needs
@@ -37,7 +37,7 @@ returns : tie.Need-returns
 returns c =
     let w = c .before .before .write in
     let f = c .before .before .before .before .before .before .before .fill-hex in
-    let l = c .before .before .before .before .before .before .before .before .before .last-of-sixteen in
+    let l = c .before .before .before .before .before .before .before .before .before .last-of in
     let a = c .before .before .before .before .before .before .before .before .before .before .before .args in
     let x = f .last .0 in
     let n : length x ≡ 16 = search needs in
@@ -50,7 +50,7 @@ pub write-hex-spec : {M : Type 1} → statement M
 write-hex-spec =
     tie.close
     (tie.spec
-    last-of-sixteen-requires
+    last-of-requires
     slice-aggregate-fill-hex
     fill-hex-requires
     sub-write

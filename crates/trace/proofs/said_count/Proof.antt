@@ -54,6 +54,12 @@ returns-5 : tie.Need-returns-5
 returns-5 c = let a = c .before .before .before .args in
     (c .state-count .ensures .0 ∙ ap (λ (q : Said). length (linesBy q (a .number) (a .turn))) (sym (c .before .enum-told5 .given .1)), c .state-count .ensures .1)
 
+enum-told-6 : tie.Need-enum-told-6
+enum-told-6 c = search needs
+
+returns-6 : tie.Need-returns-6
+returns-6 c = search needs
+
 pub said-count-spec : {M : Type 1} → statement M
 said-count-spec =
     tie.close
@@ -70,4 +76,6 @@ said-count-spec =
     returns-4
     enum-told-5
     state-count-requires
-    returns-5)
+    returns-5
+    enum-told-6
+    returns-6)

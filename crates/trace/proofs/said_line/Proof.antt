@@ -65,6 +65,15 @@ returns-5 : tie.Need-returns-5
 returns-5 c = let a = c .before .before .before .args in
     c .state-line .ensures ∙ ap (λ (q : Said). getD (linesBy q (a .number) (a .turn)) (a .i) noLine) (sym (c .before .enum-told3 .given .1))
 
+enum-told-4 : tie.Need-enum-told-4
+enum-told-4 c = search needs
+
+no-line-requires-2 : tie.Need-no-line-requires-2
+no-line-requires-2 c κs = search needs
+
+returns-6 : tie.Need-returns-6
+returns-6 c = search needs
+
 pub said-line-spec : {M : Type 1} → statement M
 said-line-spec =
     tie.close
@@ -83,4 +92,7 @@ said-line-spec =
     returns-4
     enum-told-3
     state-line-requires
-    returns-5)
+    returns-5
+    enum-told-4
+    no-line-requires-2
+    returns-6)

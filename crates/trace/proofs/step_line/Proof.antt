@@ -149,6 +149,16 @@ returns-12 : tie.Need-returns-12
 unfolding stepLine
 returns-12 c = rw (c .before .before .before .step10 .given .1) (c .status-line .ensures ∙ ap (λ (l : Line). statusLine l (c .before .before .before .step10 .given .0 .0)) (c .before .word-line3 .ensures))
 
+enum-told-3 : tie.Need-enum-told-3
+enum-told-3 c = search needs
+
+no-line-requires : tie.Need-no-line-requires
+no-line-requires c κs = search needs
+
+returns-13 : tie.Need-returns-13
+unfolding stepLine
+returns-13 c = rw (c .before .enum-told3 .given .1) (c .no-line .ensures)
+
 pub step-line-spec : {M : Type 1} → statement M
 step-line-spec =
     tie.close
@@ -195,4 +205,7 @@ step-line-spec =
     enum-known-step-10
     word-line-requires-3
     status-line-requires
-    returns-12)
+    returns-12
+    enum-told-3
+    no-line-requires
+    returns-13)

@@ -39,9 +39,16 @@ returns-5 : tie.Need-returns-5
 unfolding calls
 returns-5 c = of-kind 31 (c .before .before .args .line) (c .before .match .keys5) (rw (c .failure-of .ensures))
 
+length-of-requires : tie.Need-length-of-requires
+length-of-requires c κs = search needs
+
 returns-6 : tie.Need-returns-6
 unfolding calls
-returns-6 c = no-kind (c .before .args .line) (omega arith)
+returns-6 c = of-kind 32 (c .before .before .args .line) (c .before .match .keys6) (rw (c .length-of .ensures))
+
+returns-7 : tie.Need-returns-7
+unfolding calls
+returns-7 c = no-kind (c .before .args .line) (omega arith)
 
 pub call-of-27-and-more-spec : {M : Type 1} → statement M
 call-of-27-and-more-spec =
@@ -56,4 +63,6 @@ call-of-27-and-more-spec =
     returns-4
     failure-of-requires
     returns-5
-    returns-6)
+    length-of-requires
+    returns-6
+    returns-7)

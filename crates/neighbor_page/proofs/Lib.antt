@@ -1,0 +1,5 @@
+-- The laws of `neighbor_page`.
+pub mod Rows
+pub mod Gathered
+pub mod Form
+pub mod PageForm

@@ -1,0 +1,3 @@
+-- The definitions of `neighbor_page`.
+pub mod Page
+pub mod Statement
