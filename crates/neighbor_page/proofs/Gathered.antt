@@ -1,10 +1,10 @@
 -- Laws of rows gathered one by one, and of rows written one behind the other. Assumes nothing.
-use Prim.Native.Nat.{ℕ, zero, suc, _+_, _-_, _*_, _<_, _≤_}
-use mathlib.Core.Path.{_≡_, refl, sym, ap, subst, _∙_}
-use mathlib.Core.List.{List, [], _∷_, _++_, append-assoc, append-nil, map, map-append, flatMap}
+use Prim.Native.Nat.{ℕ, zero, suc, _+_, _<_}
+use mathlib.Core.Path.{_≡_, refl, sym, ap, _∙_}
+use mathlib.Core.List.{List, [], _∷_, _++_, append-nil, map, map-append}
 use native.Mathlib.Numerals.{add-one}
 use native.Mathlib.Omega.{arith}
-use lib.ListN.{length, take, drop, set, getD, replicate, length-append, length-map, drop-of-length-le}
+use lib.ListN.{length, set, replicate, length-append, length-map, drop-of-length-le}
 use Rattle.lists.specs.Lists.{over}
 use Rattle.lists.proofs.Lists.{over-snoc}
 use Rattle.nib.specs.Neighbors.{entryAt}

@@ -21,7 +21,7 @@ use Rattle.neighbor_page.specs.Page.{spaced, row, firstRow, entryRow, bl
 use Rattle.neighbor_page.specs.Statement.{characters, PageForm}
 use Rattle.neighbor_page.proofs.Rows.{ended}
 use Rattle.neighbor_page.proofs.Gathered.{rows-length, below-length}
-use Rattle.neighbor_page.proofs.Form.{first-48, entry-48, rows-48, flat-length}
+use Rattle.neighbor_page.proofs.Form.{entry-48, rows-48, flat-length}
 
 -- Characters are bytes from the space on.
 

@@ -5,7 +5,7 @@ ghost use Prim.Native.Nat.{_≤_, min};
 ghost use lib.ListN.{length};
 ghost use lib.Seq.{sets};
 ghost use Rattle.lists.specs.Lists.{over};
-ghost use Rattle.nib.specs.Neighbors.{entriesOf, entryAt};
+ghost use Rattle.nib.specs.Neighbors.{entriesOf};
 ghost use Rattle.text.specs.Text.{decimalText, hexText, rightText};
 ghost use Rattle.neighbor_page.specs.Page.{firstRow, entryRow, blankRow, slotRow, rows, tooShort, written};
 use nib::Neighbor;

@@ -1,10 +1,9 @@
 -- `entry_row` meets its contract: each column is written where spaces begin. Assumes nothing.
 use native.Mathlib.Omega.{arith}
-use mathlib.Core.Path.{_≡_, refl, sym, ap, _∙_}
+use mathlib.Core.Path.{refl, sym, ap, _∙_}
 use Prim.Native.Nat.{ℕ}
 use mathlib.Core.List.{List, [], _∷_, _++_, zipWith}
-use lib.ListN.{length, set}
-use Rattle.nib.specs.Identifiers.{linkCost}
+use lib.ListN.{set}
 use Rattle.text.specs.Text.{decimalText, hexText, spaces, rightText}
 use Rattle.text.proofs.Numbers.{hex-long, right-long}
 use Rattle.neighbor_page.specs.Page.{row, entryRow, spaced}

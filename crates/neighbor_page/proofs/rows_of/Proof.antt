@@ -1,14 +1,12 @@
 -- `rows_of` meets its contract: after i slots the first row and those of i slots stand in front. Assumes nothing.
 use native.Mathlib.Omega.{arith}
-use native.Mathlib.Numerals.{add-one}
-use Prim.Native.Nat.{ℕ, suc, _+_, _-_, _≤_}
-use mathlib.Core.Path.{_≡_, refl, sym, ap, _∙_}
-use mathlib.Core.List.{List, _∷_, map}
+use Prim.Native.Nat.{_-_, _≤_}
+use mathlib.Core.Path.{_≡_, refl, ap, _∙_}
 use borrow.Author.Needs.{needs}
 use lib.ListN.{length, replicate}
 use Rattle.nib.specs.Neighbors.{entriesOf, entryAt}
 use Rattle.lists.specs.Lists.{over}
-use Rattle.neighbor_page.specs.Page.{firstRow, slotRow, below, rows}
+use Rattle.neighbor_page.specs.Page.{slotRow, rows}
 use Rattle.neighbor_page.proofs.Gathered.{firstRows, first-only, rows-next, rows-all}
 use Rattle.neighbor_page.proofs.rows_of.Statement.{statement}
 use Rattle.neighbor_page.proofs.rows_of.Tie as tie

@@ -1,6 +1,6 @@
 -- `write_page` meets its contract: after k rows those stand over the front of the buffer. Assumes nothing.
 use native.Mathlib.Omega.{arith}
-use Prim.Native.Nat.{ℕ, _+_, _-_, _*_, _<_, _≤_}
+use Prim.Native.Nat.{ℕ, _-_, _*_, _<_, _≤_}
 use mathlib.Core.Path.{_≡_, refl, sym, ap, _∙_}
 use mathlib.Core.Bool.{cond, not}
 use mathlib.Core.List.{List, [], flatMap}

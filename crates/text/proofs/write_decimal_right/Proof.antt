@@ -2,7 +2,7 @@
 use native.Mathlib.Omega.{arith}
 use Prim.Native.Nat.{ℕ, _+_, _-_, _≤_, min}
 use mathlib.Core.Path.{_≡_, sym, ap, _∙_}
-use mathlib.Core.List.{List, _++_}
+use mathlib.Core.List.{_++_}
 use lib.ListN.{length, take, drop, length-drop, take-append-drop}
 use lib.Seq.{sets, take-all}
 use Rattle.text.specs.Text.{decimalText, spaces, rightText}
