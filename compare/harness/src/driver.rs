@@ -55,6 +55,8 @@ impl Kind {
 thread_local! {
     static AWAITED: Cell<Option<Kind>> = const { Cell::new(None) };
     static OUTCOME: RefCell<Option<Outcome>> = const { RefCell::new(None) };
+    // request L2: the sender of the leave that is indicated, where it has no request bit, its sender is another than the parent, and it has no IEEE address
+    static BY_SHORT: Cell<Option<u16>> = const { Cell::new(None) };
     // turns through the errors, commands and frame types that a line leaves open
     static TURN: Cell<usize> = const { Cell::new(0) };
 }
@@ -105,6 +107,23 @@ fn flag(v: bool) -> u8 {
 
 fn ieee(a: Option<IeeeAddress>) -> String {
     a.map_or("-".to_string(), |a| format!("{:016x}", a.0))
+}
+
+/// The first neighbour with relationship PARENT.
+fn parent() -> Option<u16> {
+    nib::get_ref().neighbor_table().iter().find(|n| n.relationship == 0).map(|n| n.network_address.0)
+}
+
+/// Whose leave an indication is. The source says an IEEE address or none, and none stands for this device. Request L2 asks for the sender's short address exactly where a leave
+/// without the request bit from another than the parent has no IEEE address: there the request's answer is printed, and everywhere else the source's.
+fn device(a: Option<IeeeAddress>) -> String {
+    match BY_SHORT.get() {
+        Some(sender) => {
+            assert!(a.is_none(), "an IEEE address that the frame doesn't have");
+            format!("{sender:04x}")
+        }
+        None => ieee(a),
+    }
 }
 
 /// The fields of a transmitted frame, from its bytes.
@@ -177,14 +196,19 @@ fn deliver(frame: &Frame, buf: &mut [u8]) -> usize {
             own,
             Command::EndDeviceTimeoutResponse(EndDeviceTimeoutResponse { status, parent_information: information }),
         ),
-        Frame::Leave { source, ieee, destination, request, rejoin, children } => command(
-            source,
-            ieee,
-            destination,
-            Command::Leave(Leave {
-                command_options: CommandOptions(0).set_request(request).set_rejoin(rejoin).set_remove_children(children),
-            }),
-        ),
+        Frame::Leave { source, ieee, destination, request, rejoin, children } => {
+            if !request {
+                BY_SHORT.set((parent() != Some(source) && ieee.is_none()).then_some(source));
+            }
+            command(
+                source,
+                ieee,
+                destination,
+                Command::Leave(Leave {
+                    command_options: CommandOptions(0).set_request(request).set_rejoin(rejoin).set_remove_children(children),
+                }),
+            )
+        }
         Frame::Command { source, ieee } => {
             let rest = Ignored(&[0x00, 0x01]);
             let c = match turn(11) {
@@ -310,8 +334,19 @@ impl Mlme for ScriptMac {
     }
 
     async fn transmit_data(&self, dest: Address, payload: &[u8]) -> Result<(), MacError> {
-        log(|| format!("transmit\t{}\t{}", short(dest), describe(payload)));
-        match outcome(Kind::Transmit).await {
+        // told by what is logged: where nothing is, no indication is printed either
+        let mut leave = false;
+        log(|| {
+            let frame = describe(payload);
+            leave = frame.starts_with("leave\t");
+            format!("transmit\t{}\t{frame}", short(dest))
+        });
+        let outcome = outcome(Kind::Transmit).await;
+        if leave {
+            // this device's leave is indicated next
+            BY_SHORT.set(None);
+        }
+        match outcome {
             Outcome::Sent => Ok(()),
             Outcome::SendFail => Err(some_error()),
             o => unreachable!("{o:?}"),
@@ -557,7 +592,7 @@ impl Driver {
                 log(|| format!("expired\t{}", flag(expired)));
             }
             Call::TakeLeave => match nlme.take_leave_indication() {
-                Some(i) => log(|| format!("leaveindication\t{}\t{}", ieee(i.device_address), flag(i.rejoin))),
+                Some(i) => log(|| format!("leaveindication\t{}\t{}", device(i.device_address), flag(i.rejoin))),
                 None => log(|| "nothing".to_string()),
             },
             Call::TakeStatus => match nlme.take_nwk_status_indication() {
@@ -589,7 +624,7 @@ impl Driver {
             lines.push(format!("timeoutresponse\t{s}\t{p}"));
         }
         if let Some((a, r)) = v.leave_indication {
-            lines.push(format!("leaveindication\t{}\t{}", ieee(a.map(IeeeAddress)), flag(r)));
+            lines.push(format!("leaveindication\t{}\t{}", device(a.map(IeeeAddress)), flag(r)));
         }
         if let Some(a) = v.status_indication {
             lines.push(format!("statusindication\t{a:04x}"));
@@ -614,6 +649,7 @@ impl Driver {
         self.operation = None;
         AWAITED.set(None);
         OUTCOME.replace(None);
+        BY_SHORT.set(None);
         TURN.set(0);
         let nib = nib::get_ref();
         nib.reset_all();

@@ -3,7 +3,7 @@ ghost use mathlib.Core.Path.{_≡_};
 ghost use Rattle.management.specs.Signals.{withRejoinResponse, withTimeoutResponse, withLeaveIndication, withStatusIndication};
 use nib::CapabilityInformation;
 use nib::ExtendedPanId;
-use nib::OptionalIeee;
+use nib::IeeeAddress;
 use nib::ShortAddress;
 
 // The kinds of a join request, in the order of their numbers 0 to 3 (Zigbee Table 3-21).
@@ -74,9 +74,16 @@ pub enum KeepaliveAnswer {
     KeepaliveParentLinkFailure,
 }
 
-// No device address: this device was removed, or a neighbour left by a frame without its IEEE address.
+// Whose leave it is: this device's, for the parent's leave or an accepted request; that of a neighbour, by its IEEE address; or, where its leave has none, by its short address.
+pub enum LeavingDevice {
+    ThisDevice,
+    NeighborByIeee(IeeeAddress),
+    NeighborByShort(ShortAddress),
+}
+
+// A device has left, and whether it is to rejoin.
 pub struct NlmeLeaveIndication {
-    pub device_address: OptionalIeee,
+    pub device: LeavingDevice,
     pub rejoin: bool,
 }
 

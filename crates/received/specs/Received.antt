@@ -16,6 +16,7 @@ use Rattle.management.specs.declared.RejoinResponse.{RejoinResponse}
 use Rattle.management.specs.declared.EndDeviceTimeoutResponse.{EndDeviceTimeoutResponse}
 use Rattle.management.specs.declared.RejoinResponseSlot.{RejoinResponseSlot}
 use Rattle.management.specs.declared.TimeoutResponseSlot.{TimeoutResponseSlot}
+use Rattle.management.specs.declared.LeavingDevice.{LeavingDevice}
 use Rattle.management.specs.declared.LeaveIndicationSlot.{LeaveIndicationSlot}
 use Rattle.management.specs.declared.PollAnswer.{PollAnswer}
 use Rattle.frame.specs.declared.Source.{Source}
@@ -68,17 +69,23 @@ abbrev pub fromParent : Neighbor → ShortAddress → Bool
 fromParent Neighbor.Absent a = false
 fromParent (Neighbor.Entry p) a = eqb (p .«network_address» .0) (a .0)
 
--- the leave indication. No device address means this device (Zigbee 3.2.2.19), but stands for a neighbour too whose frame has none (docs/DIFFERENCES.md)
-abbrev pub leaveIndicated : OptionalIeee → Bool → Nlme → Nlme
+-- the leave indication: whose leave it is, and its rejoin bit (Zigbee 3.2.2.19; a short address in it is request L2's)
+abbrev pub leaveIndicated : LeavingDevice → Bool → Nlme → Nlme
 leaveIndicated device rejoin n =
-    withSignals (withLeaveIndication (LeaveIndicationSlot.HasLeaveIndication (record { «device_address» = device; rejoin = rejoin })) (n .signals)) n
+    withSignals (withLeaveIndication (LeaveIndicationSlot.HasLeaveIndication (record { device = device; rejoin = rejoin })) (n .signals)) n
 
--- "Leave without the request bit": "From the parent it zeroes the extended PAN id and indicates no device address; from another it indicates the sender's IEEE address, or none if the frame has none"
+-- "a neighbour by IEEE address; a neighbour by short address, exactly where a leave without the request bit from another than the parent has no IEEE address" (02, L2). The frame's
+-- field is meant, and not what the table knows of its sender: an IEEE address of 0 is one
+abbrev pub neighborLeaving : OptionalIeee → ShortAddress → LeavingDevice
+neighborLeaving (OptionalIeee.Ieee x) a = LeavingDevice.NeighborByIeee x
+neighborLeaving OptionalIeee.NoIeee a = LeavingDevice.NeighborByShort a
+
+-- "Leave without the request bit": "From the parent it zeroes the extended PAN id" (01), and is indicated as "this device, for the parent's leave" (02, L2); from another as that neighbour's
 unfoldable pub neighborLeft : Neighbor → Source → Bool → Nlme → Nlme
 neighborLeft parent s rejoin n =
     cond (fromParent parent (s .address))
-    (leaveIndicated OptionalIeee.NoIeee rejoin (withNib (withExtendedPanId (record { 0 = 0 }) (n .nib)) n))
-    (leaveIndicated (s .ieee) rejoin n)
+    (leaveIndicated LeavingDevice.ThisDevice rejoin (withNib (withExtendedPanId (record { 0 = 0 }) (n .nib)) n))
+    (leaveIndicated (neighborLeaving (s .ieee) (s .address)) rejoin n)
 
 -- `accepts_leave_request` (Zigbee 3.6.1.10.3.1): not the coordinator, no broadcast (0xfff8 and above); a router as nwkLeaveRequestAllowed says, an end device from its parent
 unfoldable pub acceptsLeave : Nib → ShortAddress → Bool → Bool
@@ -126,10 +133,11 @@ handled parent broadcastIeee (ReceivedFrame.OtherCommand s) n = dealtWith n Poll
 handled parent broadcastIeee ReceivedFrame.OtherFrame n = dealtWith n PollAnswer.PollNothing
 
 -- after the announcement, sent or not: an end device's extended PAN id is 0 (Zigbee 3.6.1.10.1), and unless the rejoin bit is set the fields of
--- `clear_nib_on_leave` are reset (Zigbee 3.6.1.10.4), so the timer runs on. "It indicates no device address, announced or not."
+-- `clear_nib_on_leave` are reset (Zigbee 3.6.1.10.4), so the timer runs on
 unfoldable pub leftFor : Bool → Nib → Nib
 leftFor true nib = cond (bit 1 (nib .«capability_information» .0)) nib (withExtendedPanId (record { 0 = 0 }) nib)
 leftFor false nib = withNetworkLeft nib
 
+-- "this device, for .. an accepted request" (02, L2), "announced or not" (01)
 unfoldable pub leaveAnnounced : Bool → Nlme → Nlme
-leaveAnnounced rejoin n = leaveIndicated OptionalIeee.NoIeee rejoin (withNib (leftFor rejoin (n .nib)) n)
+leaveAnnounced rejoin n = leaveIndicated LeavingDevice.ThisDevice rejoin (withNib (leftFor rejoin (n .nib)) n)

@@ -1,13 +1,14 @@
 // What a received frame does: teaching, responses, and leave commands.
 ghost use mathlib.Core.Path.{_≡_};
 ghost use Rattle.neighbor_table.specs.NeighborTable.{onEntries};
-ghost use Rattle.received.specs.Received.{taughtBy, taught, rejoinResponded, timeoutSignalled, stored, timeoutResponded, fromParent, leaveIndicated, neighborLeft, acceptsLeave, leaveTo, announcement, dealtWith, leaveRequested, leaveHandled, handled, leftFor, leaveAnnounced};
+ghost use Rattle.received.specs.Received.{taughtBy, taught, rejoinResponded, timeoutSignalled, stored, timeoutResponded, fromParent, leaveIndicated, neighborLeaving, neighborLeft, acceptsLeave, leaveTo, announcement, dealtWith, leaveRequested, leaveHandled, handled, leftFor, leaveAnnounced};
 use frame::LeaveOptions;
 use frame::ReceivedFrame;
 use frame::SentFrame;
 use frame::Source;
 use management::EndDeviceTimeoutResponse;
 use management::LeaveIndicationSlot;
+use management::LeavingDevice;
 use management::NlmeLeaveIndication;
 use management::PollAnswer;
 use management::RejoinResponse;
@@ -121,17 +122,26 @@ fn is_from_parent(parent: Neighbor, source: ShortAddress) -> bool
     }
 }
 
-fn indicate_leave(mut nlme: Nlme, device_address: OptionalIeee, rejoin: bool) -> Nlme
-    ensures { λ r. ⌜ r ≡ leaveIndicated «device_address» rejoin nlme ⌝ }
+fn indicate_leave(mut nlme: Nlme, device: LeavingDevice, rejoin: bool) -> Nlme
+    ensures { λ r. ⌜ r ≡ leaveIndicated device rejoin nlme ⌝ }
 {
-    let indication = NlmeLeaveIndication {
-        device_address,
-        rejoin,
-    };
+    let indication = NlmeLeaveIndication { device, rejoin };
     let slot = LeaveIndicationSlot::HasLeaveIndication(indication);
     let signals = nlme.signals.with_leave_indication(slot);
     nlme.signals = signals;
     nlme
+}
+
+// A neighbour that leaves: by the IEEE address that its frame carries, or else by its short address.
+fn neighbor_leaving(source: Source) -> LeavingDevice
+    ensures { λ r. ⌜ r ≡ neighborLeaving (source .ieee) (source .address) ⌝ }
+{
+    let address = source.address;
+    let ieee = source.ieee;
+    match ieee {
+        OptionalIeee::NoIeee => return LeavingDevice::NeighborByShort(address),
+        OptionalIeee::Ieee(x) => return LeavingDevice::NeighborByIeee(x),
+    }
 }
 
 fn neighbor_left(mut nlme: Nlme, parent: Neighbor, source: Source, rejoin: bool) -> Nlme
@@ -139,10 +149,9 @@ fn neighbor_left(mut nlme: Nlme, parent: Neighbor, source: Source, rejoin: bool)
 {
     if is_from_parent(parent, source.address) {
         nlme.nib.extended_panid.0 = 0;
-        return indicate_leave(nlme, OptionalIeee::NoIeee, rejoin);
+        return indicate_leave(nlme, LeavingDevice::ThisDevice, rejoin);
     }
-    let ieee = source.ieee;
-    indicate_leave(nlme, ieee, rejoin)
+    indicate_leave(nlme, neighbor_leaving(source), rejoin)
 }
 
 // Whether a leave request is accepted.
@@ -320,5 +329,5 @@ pub fn leave_announced(mut nlme: Nlme, rejoin: bool) -> Nlme
 {
     let left = left_network(nlme.nib, rejoin);
     nlme.nib = left;
-    indicate_leave(nlme, OptionalIeee::NoIeee, rejoin)
+    indicate_leave(nlme, LeavingDevice::ThisDevice, rejoin)
 }

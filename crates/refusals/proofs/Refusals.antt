@@ -36,7 +36,7 @@ use Rattle.lent_tick.specs.LentTick.{withTimer, turnedDown, leaving, lentTick}
 use Rattle.lent_tick.specs.declared.LentTicked.{LentTicked}
 use Rattle.refusals.specs.Statement.{phase, Bad, UnderWay, Above27, Above16, numbers, First, TurnedDown, Answered, Demand1}
 use Rattle.refusals.proofs.Conditions.{Tells, holds, fails, Told, awaits, awaits-none, same-told, above-told, bad-told, idle-told, scan-told, association-told, transmission-told, reception-told, shorts-are}
-use Rattle.refusals.proofs.Decisions.{Uses, Made, join-made, associated-made, rejoin-made, next-made, request-made, send-made, sent-made, pollStarted-made, timeout-made, timeoutSent-made, continuing-made}
+use Rattle.refusals.proofs.Decisions.{Uses, join-made, associated-made, rejoin-made, next-made, request-made, send-made, sent-made, pollStarted-made, timeout-made, timeoutSent-made, continuing-made}
 
 -- an answer whose step is made, and uses the polls that it requests
 abbrev Done : Answer → Type 0
@@ -66,7 +66,7 @@ start-made s a h = go (idle-told (phase s))
     go (holds i) = passed (λ (n : UnderWay s). n i) (done h)
     go (fails i) = turned i refl
 
-carried : (reset : Bool) (s : State) (d : Decision) → Made d → Done (finish reset s d)
+carried : (reset : Bool) (s : State) (d : Decision) → Uses (d .step) (d .«polls_used») → Done (finish reset s d)
 unfolding finish
 carried reset s d h = h
 
@@ -74,13 +74,13 @@ carried reset s d h = h
 
 associate-made : (r : NlmeJoinRequest) (s : State) → Done (associate r s)
 unfolding associate
-associate-made r s = by-cases Done (eqb (s .control .nlme .nib .«network_address» .0) 0xffff) (λ _. carried false _ _ (join-made _ _ _)) (carried false s _ refl)
+associate-made r s = by-cases Done (eqb (s .control .nlme .nib .«network_address» .0) 0xffff) (λ _. carried false _ _ (join-made _ _ _ .0)) (carried false s _ refl)
 
 joinBy-made : (k : RejoinNetwork) (r : NlmeJoinRequest) (s : State) → Done (joinBy k r s)
 unfolding joinBy
 joinBy-made RejoinNetwork.Association r s = associate-made r s
 joinBy-made RejoinNetwork.Orphan r s = carried false s _ refl
-joinBy-made RejoinNetwork.NwkRejoin r s = carried false s _ (rejoin-made r _ _)
+joinBy-made RejoinNetwork.NwkRejoin r s = carried false s _ (rejoin-made r _ _ .0)
 joinBy-made RejoinNetwork.ChannelChange r s = carried false s _ refl
 
 -- OUTCOMES
@@ -94,7 +94,7 @@ scanFailed-made ScanFor.Rejoin s = carried false s _ refl
 scanHeard-made : (u : ScanFor) (s : State) → Done (scanHeard u s)
 unfolding scanHeard
 scanHeard-made ScanFor.Discovery s = carried false s _ refl
-scanHeard-made ScanFor.Rejoin s = carried false _ _ (next-made _ _ _)
+scanHeard-made ScanFor.Rejoin s = carried false _ _ (next-made _ _ _ .0)
 
 scan-made : (o : ScanOutcome) (s : State) (u : ScanFor) → Gets s (scanOver o u s) ((3, Above27 o) ∷ (4, Above16 o) ∷ [])
 unfolding scanOver
@@ -114,7 +114,7 @@ scan-made o s u = go (o .failed) refl
 
 -- a poll or a receive
 goOn-made : (reset : Bool) (u : Purpose) (a : PollAnswer) (s : State) → Done (goOn reset u a s)
-goOn-made reset u a s = carried reset s _ (continuing-made u a _ _ _)
+goOn-made reset u a s = carried reset s _ (continuing-made u a _ _ _ .0)
 
 after-made : (u : Purpose) (t : Then) (s : State) → Done (after u t s)
 unfolding after
@@ -130,9 +130,9 @@ reception-made (ReceptionOutcome.Received f) s u = after-made u _ _
 -- a transmission
 transmission-made : (ok : Bool) (s : State) (u : TransmissionFor) → Done (transmissionOver ok u s)
 unfolding transmissionOver
-transmission-made ok s TransmissionFor.RejoinRequest = carried false s _ (request-made ok _ _ _)
-transmission-made ok s TransmissionFor.Data = carried false s _ (sent-made ok _ _)
-transmission-made ok s (TransmissionFor.TimeoutRequest u) = carried false s _ (timeoutSent-made u ok _ _)
+transmission-made ok s TransmissionFor.RejoinRequest = carried false s _ (request-made ok _ _ _ .0)
+transmission-made ok s TransmissionFor.Data = carried false s _ (sent-made ok _ _ .0)
+transmission-made ok s (TransmissionFor.TimeoutRequest u) = carried false s _ (timeoutSent-made u ok _ _ .0)
 transmission-made ok s (TransmissionFor.Leave l) = goOn-made _ (l .purpose) _ (afterLeave (l .rejoin) s)
 
 -- EVERY CALL
@@ -141,12 +141,12 @@ pub answer-made : (s : State) (c : Call) → Gets s (answer s c) (numbers s c)
 unfolding answer receiveStarted
 answer-made s (discovery r) = tested (bad-told s) (start-made s _ (carried false s _ refl))
 answer-made s (join r) = tested (bad-told s) (start-made s _ (joinBy-made _ r s))
-answer-made s (send d secure) = tested (bad-told s) (start-made s _ (carried false s _ (send-made d secure _ _)))
-answer-made s poll = tested (bad-told s) (start-made s _ (carried false s _ (pollStarted-made _ _)))
+answer-made s (send d secure) = tested (bad-told s) (start-made s _ (carried false s _ (send-made d secure _ _ .0)))
+answer-made s poll = tested (bad-told s) (start-made s _ (carried false s _ (pollStarted-made _ _ .0)))
 answer-made s receive = tested (bad-told s) (start-made s _ (carried false s _ refl))
-answer-made s (timeout u) = tested (bad-told s) (start-made s _ (carried false s _ (timeout-made u _ _)))
+answer-made s (timeout u) = tested (bad-told s) (start-made s _ (carried false s _ (timeout-made u _ _ .0)))
 answer-made s (scan o) = tested (bad-told s) (outcome-made s (scanFor (phase s)) _ (scan-told (phase s)) (scan-made o s))
-answer-made s (association o) = tested (bad-told s) (outcome-made s (associationFor (phase s)) _ (association-told (phase s)) (λ _. done (carried false s _ (associated-made o _ _ _))))
+answer-made s (association o) = tested (bad-told s) (outcome-made s (associationFor (phase s)) _ (association-told (phase s)) (λ _. done (carried false s _ (associated-made o _ _ _ .0))))
 answer-made s (transmission ok) = tested (bad-told s) (outcome-made s (transmissionFor (phase s)) _ (transmission-told (phase s)) (λ u. done (transmission-made ok s u)))
 answer-made s (reception o) = tested (bad-told s) (outcome-made s (receptionFor (phase s)) _ (reception-told (phase s)) (λ u. done (reception-made o s u)))
 answer-made s (elapsed ms) = tested (bad-told s) (done (carried false s _ refl))

@@ -1,14 +1,14 @@
 -- Laws of a page that is printed: what the call answers, and what stands in the buffer of which a part was lent. Assumes nothing.
-use Prim.Native.Nat.{ℕ, _≤_, _<_, min}
+use Prim.Native.Nat.{ℕ, _≤_, min}
 use mathlib.Core.Path.{_≡_, refl, sym, ap, subst, _∙_}
-use mathlib.Core.Bool.{Bool, true, false, cond, false≢true}
+use mathlib.Core.Bool.{Bool, true, false, cond}
 use mathlib.Core.List.{List, [], _∷_, _++_, append-assoc, append-nil, flatMap}
 use native.Mathlib.Omega.{arith}
 use borrow.Author.Tests.{ltb-true, ltb-false, lt-ltb, le-ltb}
 use types.Run.{OneOf, miss}
 use denote.Enum.Declared.{tagOf}
 use lib.Dec.{ltb}
-use lib.ListN.{length, take, drop, take-append-drop, length-take}
+use lib.ListN.{length, take, drop, take-append-drop}
 use lib.Seq.{sets, drop-append-le, length-take-le}
 use Rattle.lists.specs.Lists.{over}
 use Rattle.lists.proofs.Bytes.{sets-over}

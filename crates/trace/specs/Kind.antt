@@ -9,7 +9,7 @@ entry = 0
 abbrev pub node : ℕ
 node = 1
 
--- a short address and a number: `f`, `rejoinresponse`
+-- a short address and a number: `f`, `rejoinresponse`, `leaveindication` of a neighbour by short address
 abbrev pub pair : ℕ
 pair = 2
 
@@ -65,7 +65,7 @@ answer = 14
 abbrev pub expired : ℕ
 expired = 15
 
--- `leaveindication`
+-- `leaveindication` of this device, or of a neighbour by IEEE address
 abbrev pub leaveIndication : ℕ
 leaveIndication = 16
 

@@ -20,6 +20,8 @@ use Rattle.management.specs.declared.KeepaliveAnswer.{KeepaliveAnswer}
 use Rattle.management.specs.declared.KeepaliveAnswer.the-variants.{KeepaliveOk, KeepaliveParentLinkFailure}
 use Rattle.management.specs.declared.LeaveIndicationSlot.{LeaveIndicationSlot}
 use Rattle.management.specs.declared.LeaveIndicationSlot.the-variants.{NoLeaveIndication, HasLeaveIndication}
+use Rattle.management.specs.declared.LeavingDevice.{LeavingDevice}
+use Rattle.management.specs.declared.LeavingDevice.the-variants.{ThisDevice, NeighborByIeee, NeighborByShort}
 use Rattle.management.specs.declared.NegotiationAnswer.{NegotiationAnswer}
 use Rattle.management.specs.declared.NegotiationAnswer.the-variants.{Negotiated, NotNegotiated, NegotiationNotJoined, NegotiationMacError}
 use Rattle.management.specs.declared.NlmeJoinConfirm.{NlmeJoinConfirm}
@@ -115,17 +117,14 @@ abbrev pub timeoutResponseLine : TimeoutResponseSlot → Line
 timeoutResponseLine NoTimeoutResponse = noLine
 timeoutResponseLine (HasTimeoutResponse r) = lineBy kind.timeoutResponse false (word.timeoutResponse ∷ r .status ∷ r .«parent_information» ∷ [])
 
--- an IEEE address: its number, 0 where there is none, which is printed as `-`
-abbrev pub isNone : OptionalIeee → Bool
-isNone NoIeee = true
-isNone (Ieee a) = false
-
-abbrev pub ieeeNumber : OptionalIeee → ℕ
-ieeeNumber NoIeee = 0
-ieeeNumber (Ieee a) = a .0
+-- whose leave it is: `-` this device's, 16 digits a neighbour's by IEEE address, 4 digits a neighbour's by short address; then the rejoin bit
+abbrev pub deviceLine : LeavingDevice → ℕ → Line
+deviceLine ThisDevice rejoin = lineBy kind.leaveIndication true (word.leaveIndication ∷ 0 ∷ rejoin ∷ [])
+deviceLine (NeighborByIeee a) rejoin = lineBy kind.leaveIndication false (word.leaveIndication ∷ a .0 ∷ rejoin ∷ [])
+deviceLine (NeighborByShort a) rejoin = lineBy kind.pair false (word.leaveIndication ∷ a .0 ∷ rejoin ∷ [])
 
 abbrev pub indicationLine : NlmeLeaveIndication → Line
-indicationLine i = lineBy kind.leaveIndication (isNone (i .«device_address»)) (word.leaveIndication ∷ ieeeNumber (i .«device_address») ∷ flag (i .rejoin) ∷ [])
+indicationLine i = deviceLine (i .device) (flag (i .rejoin))
 
 -- an indication, or the line that stands for an empty slot
 abbrev pub leaveLine : Line → LeaveIndicationSlot → Line
@@ -160,6 +159,15 @@ associateLine r =
     lineBy kind.associate false
     (word.associate ∷ r .channel ∷ r .«pan_id» .0 ∷ r .address .0 ∷ flag (r .capabilities .«full_function_device») ∷ flag (r .capabilities .«mains_power»)
     ∷ flag (r .capabilities .«idle_receive») ∷ flag (r .capabilities .«frame_protection») ∷ flag (r .capabilities .«allocate_address») ∷ [])
+
+-- an IEEE address: its number, 0 where there is none, which is printed as `-`
+abbrev pub isNone : OptionalIeee → Bool
+isNone NoIeee = true
+isNone (Ieee a) = false
+
+abbrev pub ieeeNumber : OptionalIeee → ℕ
+ieeeNumber NoIeee = 0
+ieeeNumber (Ieee a) = a .0
 
 -- a command frame that is sent: its word, its header, and what it carries
 abbrev pub commandLine : ℕ → PanId → ShortAddress → ℕ → CommandHeader → List ℕ → Line

@@ -16,7 +16,6 @@ use Rattle.operation.specs.declared.Step.the-variants as step
 use Rattle.nlme.specs.declared.Nlme.{Nlme}
 use Rattle.node.specs.Calls.{pageAnswer}
 use Rattle.node.specs.declared.State.{State}
-use Rattle.node.specs.declared.Answer.{Answer}
 use Rattle.trace_lines.specs.declared.Line.{Line}
 use Rattle.trace_lines.specs.TraceLines.{lineOf, lineText}
 use Rattle.trace_input.specs.TraceInput.{callOf}

@@ -23,8 +23,7 @@ ghost use Rattle.trace.specs.Lines.{
   failureLine,
   rejoinResponseLine,
   timeoutResponseLine,
-  isNone,
-  ieeeNumber,
+  deviceLine,
   indicationLine,
   leaveLine,
   statusLine,
@@ -33,6 +32,8 @@ ghost use Rattle.trace.specs.Lines.{
   noteLine,
   scanLine,
   associateLine,
+  isNone,
+  ieeeNumber,
   dataLine,
   commandLine,
   transmitLine,
@@ -59,6 +60,7 @@ use frame::DataHeader;
 use frame::SentFrame;
 use management::KeepaliveAnswer;
 use management::LeaveIndicationSlot;
+use management::LeavingDevice;
 use management::NegotiationAnswer;
 use management::NlmeJoinConfirm;
 use management::NlmeJoinStatus;
@@ -321,39 +323,51 @@ fn timeout_response_line(slot: TimeoutResponseSlot) -> Line
     }
 }
 
-fn is_none(ieee: OptionalIeee) -> bool
-    ensures { λ r. ⌜ r ≡ isNone ieee ⌝ }
+fn device_line(device: LeavingDevice, rejoin: u64) -> Line
+    ensures { λ r. ⌜ r ≡ deviceLine device rejoin ⌝ }
 {
-    match ieee {
-        OptionalIeee::NoIeee => return true,
-        OptionalIeee::Ieee(_) => return false,
-    }
-}
-
-fn ieee_number(ieee: OptionalIeee) -> u64
-    ensures { λ r. ⌜ r ≡ ieeeNumber ieee ⌝ }
-{
-    match ieee {
-        OptionalIeee::NoIeee => return 0,
-        OptionalIeee::Ieee(a) => return a.0,
+    match device {
+        LeavingDevice::ThisDevice => {
+            return short_line(
+                kind::LEAVE_INDICATION,
+                true,
+                word::LEAVE_INDICATION,
+                0,
+                rejoin,
+                0,
+                0,
+            );
+        }
+        LeavingDevice::NeighborByIeee(ieee) => {
+            return short_line(
+                kind::LEAVE_INDICATION,
+                false,
+                word::LEAVE_INDICATION,
+                ieee.0,
+                rejoin,
+                0,
+                0,
+            );
+        }
+        LeavingDevice::NeighborByShort(address) => {
+            return short_line(
+                kind::PAIR,
+                false,
+                word::LEAVE_INDICATION,
+                from_u16(address.0),
+                rejoin,
+                0,
+                0,
+            );
+        }
     }
 }
 
 fn indication_line(i: NlmeLeaveIndication) -> Line
     ensures { λ r. ⌜ r ≡ indicationLine i ⌝ }
 {
-    let address = i.device_address;
-    let dash = is_none(address);
-    let number = ieee_number(address);
-    short_line(
-        kind::LEAVE_INDICATION,
-        dash,
-        word::LEAVE_INDICATION,
-        number,
-        flag(i.rejoin),
-        0,
-        0,
-    )
+    let device = i.device;
+    device_line(device, flag(i.rejoin))
 }
 
 // The line of a slot, or `empty` where nothing is in it.
@@ -499,6 +513,24 @@ fn data_line(pan_id: PanId, address: ShortAddress, h: DataHeader) -> Line
         count: 20,
         dash: false,
         numbers,
+    }
+}
+
+fn is_none(ieee: OptionalIeee) -> bool
+    ensures { λ r. ⌜ r ≡ isNone ieee ⌝ }
+{
+    match ieee {
+        OptionalIeee::NoIeee => return true,
+        OptionalIeee::Ieee(_) => return false,
+    }
+}
+
+fn ieee_number(ieee: OptionalIeee) -> u64
+    ensures { λ r. ⌜ r ≡ ieeeNumber ieee ⌝ }
+{
+    match ieee {
+        OptionalIeee::NoIeee => return 0,
+        OptionalIeee::Ieee(a) => return a.0,
     }
 }
 

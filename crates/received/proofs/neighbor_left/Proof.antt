@@ -15,12 +15,16 @@ returns : tie.Need-returns
 unfolding neighborLeft
 returns c = rw (c .indicate-leave .ensures, sym (c .before .before .before .is-from-parent .ensures) ∙ c .before .before .if1 .taken)
 
+neighbor-leaving-requires : tie.Need-neighbor-leaving-requires
+neighbor-leaving-requires c κs = search needs
+
 indicate-leave-requires-2 : tie.Need-indicate-leave-requires-2
 indicate-leave-requires-2 c κs = search needs
 
 returns-2 : tie.Need-returns-2
 unfolding neighborLeft
-returns-2 c = rw (c .indicate-leave2 .ensures, sym (c .before .before .is-from-parent .ensures) ∙ c .before .if1 .left)
+returns-2 c =
+    rw (c .indicate-leave2 .ensures, c .before .neighbor-leaving .ensures, sym (c .before .before .before .is-from-parent .ensures) ∙ c .before .before .if1 .left)
 
 pub neighbor-left-spec : {M : Type 1} → statement M
 neighbor-left-spec =
@@ -29,5 +33,6 @@ neighbor-left-spec =
     is-from-parent-requires
     indicate-leave-requires
     returns
+    neighbor-leaving-requires
     indicate-leave-requires-2
     returns-2)

@@ -4,8 +4,8 @@ use mathlib.Core.Bool.{true, false}
 use borrow.Author.Tests.{not-true, not-false}
 use lib.ListN.{length}
 use Rattle.lists.proofs.Conditions.{pick-true, pick-false}
-use Rattle.neighbor_page.specs.Page.{tooShort, written}
-use Rattle.node.specs.Looks.{entries, finish}
+use Rattle.neighbor_page.specs.Page.{tooShort}
+use Rattle.node.specs.Looks.{finish}
 use Rattle.node.specs.Refusals.{refuse, bad}
 use Rattle.node.specs.Calls.{pageAnswer, pageLeft}
 use borrow.Author.Needs.{needs}

@@ -1,0 +1,2 @@
+-- The definitions of `leave_indications`.
+pub mod Statement
