@@ -178,12 +178,12 @@ pub data Next (s : State) (c : Call) (a : Answer) : Type 0 where
   elsewhere : NotLeaving (phase (a .state)) → Next s c a
   announced : (u : Purpose) (rejoin : Bool) → Requested s c u rejoin → phase (a .state) ≡ announcing u rejoin → Next s c a
 
-pub data Told (c : Call) (a : Answer) : Type 0 where
-  not-taken : NotTaken (a .step) → Told c a
-  taking : c ≡ takeLeave → Told c a
+pub data HandsOut (c : Call) (a : Answer) : Type 0 where
+  not-taken : NotTaken (a .step) → HandsOut c a
+  taking : c ≡ takeLeave → HandsOut c a
 
 abbrev pub Got : State → Call → Answer → Type 0
-Got s c a = Slot s c a × Next s c a × Told c a
+Got s c a = Slot s c a × Next s c a × HandsOut c a
 
 module _ (s : State) (c : Call) where
   refused-got : (k : ℕ) → Got s c (refuse k s)

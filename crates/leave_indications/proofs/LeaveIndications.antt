@@ -32,7 +32,7 @@ use Rattle.refusals.proofs.Conditions.{Tells, holds, fails, bad-told}
 use Rattle.refusals.proofs.Decisions.{NotLeaving, NotTaken}
 use Rattle.leave_indications.specs.Statement.{indication, indicated, FromParent, Brought, Leaves, Requested, announcing, Announced, Indicates, LeaveIndications}
 use Rattle.leave_indications.proofs.Parent.{byParent, from-told, accepts-told}
-use Rattle.leave_indications.proofs.Calls.{handling, left-slot, request-slot, accepted-phase, announced-made, announced-slot, tick-slot, Slot, kept, says, takes, Next, stays, elsewhere, announced, Told, not-taken, taking, answer-got}
+use Rattle.leave_indications.proofs.Calls.{handling, left-slot, request-slot, accepted-phase, announced-made, announced-slot, tick-slot, Slot, kept, says, takes, Next, stays, elsewhere, announced, HandsOut, not-taken, taking, answer-got}
 
 told-true : {C : Type 0} {b : Bool} → Tells C b → C → b ≡ true
 told-true (holds h) c = refl
@@ -229,7 +229,7 @@ announces s c u rejoin = (λ e. to e (answer-got s c .1), ⊎-elim from (λ w. w
 only-taken : (s : State) (c : Call) (x : LeaveIndicationSlot) → answer s c .step ≡ Step.LeaveTaken x → c ≡ takeLeave
 only-taken s c x e = go (answer-got s c .2)
   where
-    go : Told c (answer s c) → c ≡ takeLeave
+    go : HandsOut c (answer s c) → c ≡ takeLeave
     go (not-taken k) = absurd (subst NotTaken e k)
     go (taking k) = k
 
