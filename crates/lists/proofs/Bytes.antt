@@ -1,14 +1,14 @@
--- Laws of a list stored element by element from a place of another (`sets`). Assumes nothing.
+-- Laws of an element stored in a list (`set`), and of a list stored element by element from a place of another (`sets`). Assumes nothing.
 use Prim.Native.Nat.{ℕ, suc, _+_, _-_, _<_, _≤_, min}
 use mathlib.Core.Path.{_≡_, refl, sym, ap, _∙_}
 use mathlib.Core.Bool.{Bool, true, false}
 use mathlib.Core.List.{List, [], _∷_, _++_}
-use native.Mathlib.Nat.{add-zero, zero-add}
+use native.Mathlib.Nat.{add-zero, zero-add, le-refl}
 use native.Mathlib.Omega.{arith}
 use borrow.Author.Tests.{leb-true, leb-false}
 use lib.Dec.{leb}
 use lib.ListN.{length, take, drop, getD, set, take-append-drop, length-set}
-use lib.Seq.{sets, sets-eq, length-sets, set-out, take-all, length-take-le, drop-cons, getD-set-same, drop-set-lt}
+use lib.Seq.{sets, sets-eq, length-sets, set-out, take-all, take-set-le, length-take-le, drop-cons, getD-set-same, drop-set-lt}
 use Rattle.lists.specs.Lists.{over}
 use Rattle.lists.proofs.Lists.{take-next}
 
@@ -56,3 +56,7 @@ module _ {A : Type 0} where
   drop-set l i x h =
       drop-cons (set l i x) i x (omega (arith, length-set l i x))
       ∙ (λ j. getD-set-same l i x x h j ∷ drop-set-lt (suc i) l i x (omega arith) j)
+
+  -- what stands up to a place, after a store there
+  pub take-set : (l : List A) (i : ℕ) (x : A) → i < length l → take (i + 1) (set l i x) ≡ take i l ++ (x ∷ [])
+  take-set l i x h = take-next (set l i x) i x (omega (arith, length-set l i x)) ∙ (λ j. take-set-le i l i x (le-refl i) j ++ (getD-set-same l i x x h j ∷ []))

@@ -5,9 +5,15 @@ use management::NlmeJoinStatus;
 use nib::CapabilityInformation;
 use supervision::OptionalPeriod;
 
+fn print(n: u32) {
+    let mut digits = [0u8; 10];
+    let count = text::write_decimal(&mut digits, 0, n);
+    io::write_all(STDOUT_FILENO, &digits[..count]);
+}
+
 fn number(n: u8) {
     io::write_all(STDOUT_FILENO, b"\t");
-    io::print_decimal(STDOUT_FILENO, n as u64);
+    print(n as u32);
 }
 
 fn flag(b: bool) {
@@ -25,7 +31,7 @@ fn period(p: OptionalPeriod) {
             io::write_all(STDOUT_FILENO, b"-");
         }
         OptionalPeriod::Period(n) => {
-            io::print_decimal(STDOUT_FILENO, n as u64);
+            print(n);
         }
     }
 }
@@ -52,7 +58,7 @@ fn association(status: u8) {
 }
 
 fn row(byte: u8) {
-    io::print_decimal(STDOUT_FILENO, byte as u64);
+    print(byte as u32);
     number(nib::link_cost_from_lqi(byte));
     flag(CapabilityInformation(byte).device_type());
     flag(CapabilityInformation(byte).power_source());
@@ -66,10 +72,8 @@ fn row(byte: u8) {
 }
 
 fn rows() {
-    let mut n: u64 = 0;
-    while n < 256 {
-        row((n % 256) as u8);
-        n += 1;
+    for byte in 0..=255 {
+        row(byte);
     }
 }
 

@@ -9,7 +9,7 @@ use native.Mathlib.Omega.{arith}
 use borrow.Author.Tests.{lt-ltb, le-ltb, lt-leb, ltb-true, leb-true, eqb-true}
 use lib.Dec.{ltb, leb, eqb}
 use lib.ListN.{length, take, drop, getD, set, length-append, length-drop, length-replicate}
-use lib.Seq.{drop-cons, drop-drop, take-take, take-set-le}
+use lib.Seq.{drop-cons, drop-drop}
 use Rattle.lists.specs.Lists.{every}
 use Rattle.lists.proofs.Bytes.{drop-set}
 use Rattle.text.specs.Text.{digitOf, valueFrom, numberFrom, decimalOf, hexOf, orZero, digitByte, decimalDigits, decimalText, hexText, spaces, rightText}
@@ -50,27 +50,10 @@ module _ (base limit v : ℕ) (f : List ℕ) (i : ℕ) (h : i < length f) where
       let g : limit < valueFrom base v (x ∷ r) = lt-of-lt-of-le l (value-grows base p (v * base + digitOf x) r) in
       rw (drop-cons f i 0 h, lt-leb (valueFrom base v (x ∷ r)) limit g) (none-past (every (λ b. ltb (digitOf b) base) (x ∷ r)) _ _)
 
--- a loop that writes digits from the last: one digit more before those that stand from at + 1 on
-pub digits-next : (at left : ℕ) (bytes : List ℕ) → 10 ≤ left → left < 10 ^ suc at → at < length bytes → decimalDigits (suc at) left ++ drop (suc at) bytes ≡ decimalDigits (suc (at - 1)) (left / 10) ++ drop (suc (at - 1)) (set bytes at (digitByte (left % 10)))
-digits-next zero left bytes t l h = let e : 10 ^ 1 ≡ 10 = refl in let f : ⊥ = omega (arith, e) in absurd f
-digits-next (suc a) left bytes t l h =
-    let e : a ≡ suc a - 1 = omega arith in
-    rw (le-ltb left 10 t) (append-assoc (decimalDigits (suc a) (left / 10)) (digitByte (left % 10) ∷ []) (drop (suc (suc a)) bytes))
-    ∙ ap (λ (z : List ℕ). decimalDigits (suc a) (left / 10) ++ z) (sym (drop-set bytes (suc a) (digitByte (left % 10)) h))
-    ∙ ap (λ (k : ℕ). decimalDigits (suc k) (left / 10) ++ drop (suc k) (set bytes (suc a) (digitByte (left % 10)))) e
-
-pub less-left : (at left : ℕ) → 10 ≤ left → left < 10 ^ suc at → (0 < at) × (left / 10 < 10 ^ suc (at - 1))
-less-left zero left t l = let e : 10 ^ 1 ≡ 10 = refl in let f : ⊥ = omega (arith, e) in absurd f
-less-left (suc a) left t l =
-    let e : suc (suc a - 1) ≡ suc a = omega arith in
-    (omega arith, rw e (div-lt-iff-lt-mul {k = 10} {x = left} {y = 10 ^ suc a} (omega arith) .1 (subst (λ (n : ℕ). left < n) (pow-suc 10 (suc a)) l)))
-
-pub digits-last : (at left : ℕ) (bytes : List ℕ) → left < 10 → at < length bytes → drop at (set bytes at (digitByte left)) ≡ decimalDigits (suc at) left ++ drop (suc at) bytes
-digits-last at left bytes t h = drop-set bytes at (digitByte left) h ∙ sym (rw (lt-ltb left 10 t))
-
--- what stands before the digits stays
-pub front-kept : (k at : ℕ) (a b : List ℕ) (d : ℕ) → k ≤ at → take (suc at) a ≡ take (suc at) b → take k (set a at d) ≡ take k b
-front-kept k at a b d h e = take-set-le k a at d h ∙ sym (take-take k (suc at) a (omega arith)) ∙ ap (take k) e ∙ take-take k (suc at) b (omega arith)
+-- the byte of a decimal digit
+pub decimal-byte : (d : ℕ) → d < 10 → digitByte d ≡ 48 + d
+unfolding digitByte
+decimal-byte d h = rw (lt-ltb d 10 h)
 
 -- the last characters of spaces and a text behind them
 drop-spaces : (m a : ℕ) (t : List ℕ) → drop m (spaces (m + a) ++ t) ≡ spaces a ++ t
@@ -110,6 +93,10 @@ pub hex-long : (k n : ℕ) → length (hexText k n) ≡ k
 hex-long zero n = refl
 hex-long (suc k) n = length-append (hexText k (n / 16)) (digitByte (n % 16) ∷ []) ∙ omega (arith, hex-long k (n / 16))
 
+-- a tenth has a digit fewer
+pub tenth-below : (k n : ℕ) → n < 10 ^ suc k → n / 10 < 10 ^ k
+tenth-below k n h = div-lt-iff-lt-mul {k = 10} {x = n} {y = 10 ^ k} (omega arith) .1 (subst (λ (m : ℕ). n < m) (pow-suc 10 k) h)
+
 pub decimal-long : (n : ℕ) → length (decimalText n) ≤ 10
 unfolding decimalText
 decimal-long n = long 10 n
@@ -129,7 +116,7 @@ decimal-short j n h = short 10 j n h
     short : (k i m : ℕ) → m < 10 ^ suc i → length (decimalDigits k m) ≤ suc i
     short zero i m l = zero-le
     short (suc k) zero m l = let e : 10 ^ 1 ≡ 10 = refl in rw (lt-ltb m 10 (omega (arith, e))) (le-refl 1)
-    short (suc k) (suc i) m l = go (ltb m 10) (short k i (m / 10) (div-lt-iff-lt-mul {k = 10} {x = m} {y = 10 ^ suc i} (omega arith) .1 (subst (λ (x : ℕ). m < x) (pow-suc 10 (suc i)) l)))
+    short (suc k) (suc i) m l = go (ltb m 10) (short k i (m / 10) (tenth-below (suc i) m l))
       where
         go : (b : Bool) → length (decimalDigits k (m / 10)) ≤ suc i → length (cond b (digitByte m ∷ []) (decimalDigits k (m / 10) ++ (digitByte (m % 10) ∷ []))) ≤ suc (suc i)
         go true r = omega arith

@@ -1,7 +1,7 @@
 // Text as slices of bytes: the parts of a line, numbers read off a part, and numbers written into a lent buffer.
 ghost use mathlib.Core.Path.{_≡_};
 ghost use mathlib.Core.List.{[]};
-ghost use Prim.Native.Nat.{_+_, _-_, _≤_, _<_, min};
+ghost use Prim.Native.Nat.{_+_, _-_, _^_, _≤_, _<_, min};
 ghost use mathlib.Core.Bool.{not, _||_};
 ghost use lib.Dec.{eqb, leb};
 ghost use lib.ListN.{length, take, drop, getD};
@@ -195,20 +195,67 @@ fn digit_byte(d: u8) -> u8
     if d < 10 { b'0' + d } else { b'a' + (d - 10) }
 }
 
-// A number in decimal at the end of ten bytes; the result is where it begins, and what stands before it stays.
+// The powers of ten, each at the place that its digit has among ten.
+const POWERS_OF_TEN: [u32; 10] = [
+    1_000_000_000,
+    100_000_000,
+    10_000_000,
+    1_000_000,
+    100_000,
+    10_000,
+    1_000,
+    100,
+    10,
+    1,
+];
+
+// The power of ten at a place.
+fn power_at(place: usize) -> u32
+    requires { ⌜ place < 10 ⌝ }
+    ensures { λ r. ⌜ r ≡ 10 ^ (9 - place) ⌝ }
+{
+    POWERS_OF_TEN[place]
+}
+
+// The place of a number's first digit among ten: that of the greatest power that it reaches; 0 has the last.
+fn first_place(n: u32) -> usize
+    ensures { λ r. ⌜ (r ≤ 9) × (n < 10 ^ (10 - r)) × (r < 9 → 10 ^ (9 - r) ≤ n) ⌝ }
+{
+    let mut place = 0;
+    while place < 9 {
+        if power_at(place) <= n {
+            return place;
+        }
+        place += 1;
+    }
+    place
+}
+
+// A number in decimal at the end of ten bytes; the result is where it begins, and what stands before it stays. A turn takes the power of a place once, or goes on to the next place: of a loop for
+// one power a compiler may make a division (docs/DECISIONS.md, "Decimals").
 fn fill_decimal(bytes: &mut [u8], n: u32) -> usize
     requires { ⌜ length (now bytes) ≡ 10 ⌝ }
     ensures { λ r. ⌜ (r < 10) × (drop r (now (bytes .exit)) ≡ decimalText n) × (take r (now (bytes .exit)) ≡ take r (now (bytes .entry))) ⌝ }
 {
-    let mut at = 9;
+    let first = first_place(n);
+    let mut at = first;
+    let mut power = power_at(at);
     let mut left = n;
-    while 10 <= left {
-        bytes[at] = digit_byte((left % 10) as u8);
-        left = left / 10;
-        at -= 1;
+    let mut byte = b'0';
+    loop {
+        if power <= left {
+            left -= power;
+            byte += 1;
+        } else {
+            bytes[at] = byte;
+            if at == 9 {
+                return first;
+            }
+            at += 1;
+            power = power_at(at);
+            byte = b'0';
+        }
     }
-    bytes[at] = digit_byte(left as u8);
-    at
 }
 
 // Writes a number in decimal at a place, as far as it fits, and returns how many digits it has.

@@ -216,7 +216,7 @@ fn write_field(out: &mut [u8], at: usize, letter: u8, n: u64, dash: bool) -> usi
     if letter == b'o' {
         return write_or_dash(out, at, n, dash);
     }
-    text::write_decimal(out, at, (n % 4294967296) as u32)
+    text::write_decimal(out, at, (n & 0xffff_ffff) as u32)
 }
 
 // Writes the tab before field i; the first field has none.

@@ -1,9 +1,9 @@
 -- `write_field` meets its contract. Assumes nothing.
-use Prim.Native.Nat.{_%_}
-use mathlib.Core.Path.{sym}
+use mathlib.Core.Path.{sym, ap, _∙_}
 use mathlib.Core.Bool.{cond}
 use mathlib.Core.List.{[]}
 use borrow.Author.Tests.{eq-eqb, ne-eqb}
+use lib.Bits.{bitAnd, and-mask, mask-lt}
 use lib.ListN.{getD}
 use Rattle.text.specs.Text.{bytes, decimalText, hexText}
 use Rattle.trace_lines.specs.TraceLines.{aWord, fourDigits, sixteenDigits, orDash, words, fieldText}
@@ -65,7 +65,7 @@ returns-4 c =
     written-as (a .out .now) (a .at) _ _ (cond (a .dash) (bytes "-") (hexText 16 (a .n))) (fieldText (a .dash) l (a .n)) (sym (rw (ne-eqb l aWord (c .before .before .before .before .before .before .before .if1 .left), ne-eqb l fourDigits (c .before .before .before .before .before .before .if2 .left), ne-eqb l sixteenDigits (c .before .before .before .before .before .if3 .left), eq-eqb l orDash (c .before .before .before .before .if4 .taken)))) (c .before .before .write-or-dash .ensures)
 
 cast-write-decimal : tie.Need-cast-write-decimal
-cast-write-decimal c = search needs
+cast-write-decimal c = record { fits = mask-lt (c .before .before .before .before .before .before .args .n) 32 }
 
 write-decimal-requires : tie.Need-write-decimal-requires
 write-decimal-requires c κs = search needs
@@ -78,7 +78,7 @@ unfolding fieldText
 returns-5 c =
     let a = c .before .before .before .before .before .before .before .before .before .args in
     let l = a .letter in
-    written-as (a .out .now) (a .at) _ _ (decimalText (a .n % 4294967296)) (fieldText (a .dash) l (a .n)) (sym (rw (ne-eqb l aWord (c .before .before .before .before .before .before .before .if1 .left), ne-eqb l fourDigits (c .before .before .before .before .before .before .if2 .left), ne-eqb l sixteenDigits (c .before .before .before .before .before .if3 .left), ne-eqb l orDash (c .before .before .before .before .if4 .left)))) (c .before .before .write-decimal .ensures)
+    written-as (a .out .now) (a .at) _ _ (decimalText (bitAnd (a .n) 4294967295)) (fieldText (a .dash) l (a .n)) (ap decimalText (and-mask (a .n) 32) ∙ sym (rw (ne-eqb l aWord (c .before .before .before .before .before .before .before .if1 .left), ne-eqb l fourDigits (c .before .before .before .before .before .before .if2 .left), ne-eqb l sixteenDigits (c .before .before .before .before .before .if3 .left), ne-eqb l orDash (c .before .before .before .before .if4 .left)))) (c .before .before .write-decimal .ensures)
 
 pub write-field-spec : {M : Type 1} → statement M
 write-field-spec =
