@@ -1,3 +1,4 @@
 -- The definitions of `candidates`.
 pub mod UpdateIds
 pub mod Candidates
+pub mod Tries

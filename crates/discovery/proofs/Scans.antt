@@ -16,9 +16,9 @@ use Rattle.nib.specs.declared.Neighbor.the-variants.{Absent, Entry}
 use Rattle.nib.specs.declared.NeighborTable.{NeighborTable}
 use Rattle.nib.specs.declared.NwkNeighbor.{NwkNeighbor}
 use Rattle.nib.proofs.Tables.{push-of}
-use Rattle.mlme.specs.declared.Address.{Address}
-use Rattle.mlme.specs.declared.Address.the-variants.{Short, Extended}
-use Rattle.mlme.specs.declared.PanDescriptor.{PanDescriptor}
+use Rattle.discovery.specs.declared.mlme.Address.{Address}
+use Rattle.discovery.specs.declared.mlme.Address.the-variants.{Short, Extended}
+use Rattle.discovery.specs.declared.mlme.PanDescriptor.{PanDescriptor}
 use Rattle.discovery.specs.Discovery.{entryOf, neighborBy, neighborOf, present, neighborsOf, shortAddressed}
 
 -- what a read past the end of the descriptors gives

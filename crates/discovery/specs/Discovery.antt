@@ -10,9 +10,9 @@ use Rattle.nib.specs.Neighbors.{NONE, deviceType}
 use Rattle.nib.specs.declared.Neighbor.{Neighbor}
 use Rattle.nib.specs.declared.NwkNeighbor.{NwkNeighbor}
 use Rattle.nib.specs.declared.ShortAddress.{ShortAddress}
-use Rattle.mlme.specs.Mlme.{bits}
-use Rattle.mlme.specs.declared.Address.{Address}
-use Rattle.mlme.specs.declared.PanDescriptor.{PanDescriptor}
+use Rattle.discovery.specs.Mlme.{bits}
+use Rattle.discovery.specs.declared.mlme.Address.{Address}
+use Rattle.discovery.specs.declared.mlme.PanDescriptor.{PanDescriptor}
 use Rattle.discovery.specs.declared.NetworkDescriptor.{NetworkDescriptor}
 use Rattle.discovery.specs.declared.NlmeNetworkDiscoveryConfirm.{NlmeNetworkDiscoveryConfirm}
 

@@ -1,2 +1,3 @@
 -- The definitions of `discovery`.
 pub mod Discovery
+pub mod Mlme

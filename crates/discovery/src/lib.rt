@@ -6,7 +6,7 @@ ghost use mathlib.Core.List.{[], map};
 ghost use lib.Dec.{ltb};
 ghost use lib.ListN.{length, take, getD};
 ghost use Rattle.nib.specs.Neighbors.{tableOf};
-ghost use Rattle.mlme.specs.Mlme.{descriptorsOf};
+ghost use Rattle.discovery.specs.Mlme.{descriptorsOf};
 ghost use Rattle.discovery.specs.Discovery.{
   potentialParent,
   entryOf,
@@ -18,12 +18,17 @@ ghost use Rattle.discovery.specs.Discovery.{
   blankDescriptor,
   confirmOf,
 };
-use mlme::Address;
-use mlme::PanDescriptor;
-use mlme::PanDescriptorList;
-use mlme::StackProfile;
+
+pub mod mlme;
+
+use crate::mlme::Address;
+use crate::mlme::MAX_PAN_DESCRIPTOR_SIZE;
+use crate::mlme::PanDescriptor;
+use crate::mlme::PanDescriptorList;
+use crate::mlme::StackProfile;
 use nib::ExtendedPanId;
 use nib::IeeeAddress;
+use nib::MAX_NEIGBOUR_TABLE;
 use nib::Neighbor;
 use nib::NeighborTable;
 use nib::NwkNeighbor;
@@ -45,9 +50,12 @@ pub struct NetworkDescriptor {
     pub end_device_capacity: bool,
 }
 
+// How many networks a confirm tells of at most: one for each descriptor of a scan.
+pub const MAX_NETWORK_DESCRIPTORS: u8 = MAX_PAN_DESCRIPTOR_SIZE as u8;
+
 // The confirm of a discovery: the first `count` descriptors are in use.
 pub struct NlmeNetworkDiscoveryConfirm {
-    pub network_descriptor: [NetworkDescriptor; 27],
+    pub network_descriptor: [NetworkDescriptor; MAX_PAN_DESCRIPTOR_SIZE],
     pub count: u8,
 }
 
@@ -143,7 +151,11 @@ fn in_use(list: PanDescriptorList) -> u8
     ensures { λ r. ⌜ (r ≡ length (descriptorsOf list)) × (r ≤ 27) ⌝ }
 {
     let count = list.count;
-    if count <= 27 { count as u8 } else { 27 }
+    if count <= MAX_PAN_DESCRIPTOR_SIZE {
+        count as u8
+    } else {
+        MAX_NETWORK_DESCRIPTORS
+    }
 }
 
 // 1 for a short-addressed descriptor, else 0.
@@ -173,18 +185,25 @@ pub fn short_addressed(list: PanDescriptorList) -> usize
     found
 }
 
+// Each turn of the loop below writes one slot and the count, whatever its descriptor gives: so its body has no branch, and the table is written in place. Where the descriptor gives no entry, the slot
+// behind those in use gets what it holds; where the table is full, the last slot does.
+
 // The place for one entry more, the last one where the table is full.
 fn slot_of(count: u8) -> u8
     ensures { λ r. ⌜ r ≡ min count 15 ⌝ }
 {
-    if count < 16 { count } else { 15 }
+    if count < MAX_NEIGBOUR_TABLE {
+        count
+    } else {
+        MAX_NEIGBOUR_TABLE - 1
+    }
 }
 
 // What is written there: what a descriptor gives, or what stood there where it gives nothing or the table is full.
 fn placed(found: Neighbor, count: u8, old: NwkNeighbor) -> NwkNeighbor
     ensures { λ r. ⌜ r ≡ cond (ltb count 16) (getD (present found) 0 old) old ⌝ }
 {
-    if 16 <= count {
+    if MAX_NEIGBOUR_TABLE <= count {
         return old;
     }
     match found {
@@ -197,8 +216,8 @@ fn placed(found: Neighbor, count: u8, old: NwkNeighbor) -> NwkNeighbor
 fn counted(found: Neighbor, count: u8) -> u8
     ensures { λ r. ⌜ r ≡ min (count + length (present found)) 16 ⌝ }
 {
-    if 16 <= count {
-        return 16;
+    if MAX_NEIGBOUR_TABLE <= count {
+        return MAX_NEIGBOUR_TABLE;
     }
     match found {
         Neighbor::Entry(_) => count + 1,
@@ -252,7 +271,7 @@ pub fn no_networks() -> NlmeNetworkDiscoveryConfirm
     ensures { λ r. ⌜ r ≡ confirmOf [] ⌝ }
 {
     let none = blank_descriptor();
-    let slots = [none; 27];
+    let slots = [none; MAX_PAN_DESCRIPTOR_SIZE];
     NlmeNetworkDiscoveryConfirm {
         network_descriptor: slots,
         count: 0,
@@ -265,7 +284,7 @@ pub fn network_descriptors(list: PanDescriptorList) -> NlmeNetworkDiscoveryConfi
 {
     let n = in_use(list);
     let none = blank_descriptor();
-    let mut slots = [none; 27];
+    let mut slots = [none; MAX_PAN_DESCRIPTOR_SIZE];
     let mut i = 0;
     while i < n {
         let at = i as usize;

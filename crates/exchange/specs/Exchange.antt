@@ -13,8 +13,8 @@ use Rattle.management.specs.declared.StatusIndicationSlot.{StatusIndicationSlot
 use Rattle.management.specs.declared.NegotiationAnswer.{NegotiationAnswer}
 use Rattle.management.specs.declared.KeepaliveAnswer.{KeepaliveAnswer}
 use Rattle.management.specs.declared.TimeoutResponseSlot.{TimeoutResponseSlot}
-use Rattle.frame.specs.Frame.{nextSeq}
-use Rattle.frame.specs.declared.SentFrame.{SentFrame}
+use Rattle.management.specs.Frame.{nextSeq}
+use Rattle.management.specs.declared.frame.SentFrame.{SentFrame}
 use Rattle.nlme.specs.Fields.{withSignals}
 use Rattle.nlme.specs.Nlme.{linkFailure, refreshed, seqUsed, transmission, timeoutRequested, sentViaParent, failedViaParent}
 use Rattle.nlme.specs.declared.NlmeTicked.{NlmeTicked}

@@ -1,19 +1,23 @@
 // Sends, polls and receives outside a rejoin, the start of each and what follows each outcome; the tick and the takings.
 ghost use mathlib.Core.Path.{_≡_};
 ghost use mathlib.Core.Bool.{cond};
-ghost use Rattle.frame.specs.Frame.{nextSeq};
-ghost use Rattle.frame.specs.declared.SentFrame.the-variants.{DataFrame};
+ghost use Rattle.management.specs.Frame.{nextSeq};
+ghost use Rattle.management.specs.declared.frame.SentFrame.the-variants.{DataFrame};
 ghost use Rattle.nlme.specs.Fields.{withSignals};
 ghost use Rattle.nlme.specs.Nlme.{transmission, nlmeTicked, sentViaParent, failedViaParent};
 ghost use Rattle.operation.specs.Operation.{withNlme};
 ghost use Rattle.exchange.specs.Exchange.{sendStarted, dataSent, pollStarted, receiveStarted, noData, pollOver, tickTold, leaveTaken, statusTaken};
-use frame::DataHeader;
-use frame::SentFrame;
+
+pub mod negotiation;
+
 use management::LeaveIndicationSlot;
 use management::PollAnswer;
 use management::SendAnswer;
 use management::Signals;
 use management::StatusIndicationSlot;
+use management::frame;
+use management::frame::DataHeader;
+use management::frame::SentFrame;
 use nib::Neighbor;
 use nib::ShortAddress;
 use nlme::Nlme;
@@ -53,7 +57,7 @@ fn data_frame(
 }
 
 // The start of a data send.
-pub fn send_started(
+pub fn start_send(
     control: Control,
     destination: ShortAddress,
     secure: bool,
@@ -63,10 +67,10 @@ pub fn send_started(
 {
     let used = operation::with_nlme(control, control.nlme.use_nwk_seq());
     match parent {
-        Neighbor::Absent => return operation::ending(Step::Sent(SendAnswer::SendNotJoined), used),
+        Neighbor::Absent => return operation::ending(used, Step::Sent(SendAnswer::SendNotJoined)),
         Neighbor::Entry(p) => {
             let frame = data_frame(control.nlme, destination, secure, p.network_address);
-            return operation::transmit(Phase::Transmission(TransmissionFor::Data), frame, used);
+            return operation::transmit(used, Phase::Transmission(TransmissionFor::Data), frame);
         }
     }
 }
@@ -87,34 +91,34 @@ pub fn data_sent(control: Control, sent: bool, parent: Neighbor) -> Decision
 {
     let via = via_parent(control.nlme, sent, parent);
     let answer = via.answer;
-    operation::ending(Step::Sent(answer), operation::with_nlme(control, via.nlme))
+    operation::ending(operation::with_nlme(control, via.nlme), Step::Sent(answer))
 }
 
 // A poll or a receive ends with an answer.
 pub fn poll_over(control: Control, answer: PollAnswer) -> Decision
     ensures { λ r. ⌜ r ≡ pollOver answer control ⌝ }
 {
-    operation::ending(Step::Polled(answer), control)
+    operation::ending(control, Step::Polled(answer))
 }
 
 // The start of one poll of the parent.
-pub fn poll_started(control: Control, parent: Neighbor) -> Decision
+pub fn start_poll(control: Control, parent: Neighbor) -> Decision
     ensures { λ r. ⌜ r ≡ pollStarted parent control ⌝ }
 {
     match parent {
         Neighbor::Absent => return poll_over(control, PollAnswer::PollNotJoined),
-        Neighbor::Entry(p) => return operation::poll(Purpose::SinglePoll, p, control),
+        Neighbor::Entry(p) => return operation::poll(control, Purpose::SinglePoll, p),
     }
 }
 
 // The start of one passive receive.
-pub fn receive_started(control: Control) -> Decision
+pub fn start_receive(control: Control) -> Decision
     ensures { λ r. ⌜ r ≡ receiveStarted control ⌝ }
 {
     operation::asking(
+        control,
         Phase::Reception(Purpose::SingleReceive),
         RadioRequest::Receive,
-        control,
     )
 }
 
@@ -131,12 +135,12 @@ pub fn no_data(purpose: Purpose) -> PollAnswer
 }
 
 // The tick of the parent's timer.
-pub fn ticked(control: Control, parent: Neighbor, elapsed_ms: u32) -> Decision
+pub fn decide_tick(control: Control, parent: Neighbor, elapsed_ms: u32) -> Decision
     ensures { λ r. ⌜ r ≡ tickTold (nlmeTicked parent «elapsed_ms» (control .nlme)) control ⌝ }
 {
     let ticked = control.nlme.tick_parent_timeout(parent, elapsed_ms);
     let next = operation::with_nlme(control, ticked.nlme);
-    operation::telling(Step::Expired(ticked.expired), next)
+    operation::telling(next, Step::Expired(ticked.expired))
 }
 
 fn with_signals(control: Control, signals: Signals) -> Control
@@ -155,7 +159,7 @@ pub fn leave_taken(control: Control) -> Decision
     let slot = signals.leave_indication;
     let taken = signals.with_leave_indication(LeaveIndicationSlot::NoLeaveIndication);
     let next = with_signals(control, taken);
-    operation::telling(Step::LeaveTaken(slot), next)
+    operation::telling(next, Step::LeaveTaken(slot))
 }
 
 // The status indication is taken.
@@ -166,5 +170,5 @@ pub fn status_taken(control: Control) -> Decision
     let slot = signals.nwk_status_indication;
     let taken = signals.with_status_indication(StatusIndicationSlot::NoStatusIndication);
     let next = with_signals(control, taken);
-    operation::telling(Step::StatusTaken(slot), next)
+    operation::telling(next, Step::StatusTaken(slot))
 }

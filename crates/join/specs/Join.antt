@@ -6,7 +6,7 @@ use lib.Dec.{eqb}
 use Rattle.nib.specs.declared.NwkNeighbor.{NwkNeighbor}
 use Rattle.nib.specs.declared.Neighbor.{Neighbor}
 use Rattle.nib.specs.declared.CapabilityInformation.{CapabilityInformation}
-use Rattle.mlme.specs.Mlme.{macCapabilities}
+use Rattle.discovery.specs.Mlme.{macCapabilities}
 use Rattle.management.specs.declared.NlmeJoinStatus.{NlmeJoinStatus}
 use Rattle.management.specs.declared.NlmeJoinConfirm.{NlmeJoinConfirm}
 use Rattle.nlme.specs.Fields.{withNib, withCapabilities, withJoined}
@@ -20,8 +20,8 @@ use Rattle.operation.specs.declared.Note.{Note}
 use Rattle.operation.specs.declared.Step.{Step}
 use Rattle.operation.specs.declared.Move.{Move}
 use Rattle.operation.specs.declared.Decision.{Decision}
-use Rattle.join.specs.declared.AssociationResponse.{AssociationResponse}
-use Rattle.join.specs.declared.AssociationOutcome.{AssociationOutcome}
+use Rattle.join.specs.declared.association.AssociationResponse.{AssociationResponse}
+use Rattle.join.specs.declared.association.AssociationOutcome.{AssociationOutcome}
 
 -- "A failed confirm has address 0xffff and zeros" (Zigbee 3.2.2.13.3)
 abbrev pub failure : NlmeJoinStatus → NlmeJoinConfirm

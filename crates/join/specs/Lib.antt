@@ -1,2 +1,3 @@
 -- The definitions of `join`.
 pub mod Join
+pub mod Rejoin

@@ -7,7 +7,7 @@ use lib.Dec.{eqb, ltb}
 use Rattle.lists.proofs.Conditions.{pick-true, pick-false, by-cases}
 use Rattle.nib.specs.declared.OptionalIeee.{OptionalIeee}
 use Rattle.nib.specs.declared.ShortAddress.{ShortAddress}
-use Rattle.mlme.specs.Mlme.{descriptorsOf}
+use Rattle.discovery.specs.Mlme.{descriptorsOf}
 use Rattle.discovery.specs.Discovery.{shortAddressed}
 use Rattle.management.specs.declared.EndDeviceTimeoutResponse.{EndDeviceTimeoutResponse}
 use Rattle.management.specs.declared.LeaveIndicationSlot.{LeaveIndicationSlot}
@@ -16,17 +16,17 @@ use Rattle.management.specs.declared.NlmeJoinRequest.{NlmeJoinRequest}
 use Rattle.management.specs.declared.PollAnswer.{PollAnswer}
 use Rattle.management.specs.declared.RejoinNetwork.{RejoinNetwork}
 use Rattle.management.specs.declared.RejoinResponse.{RejoinResponse}
-use Rattle.frame.specs.declared.LeaveOptions.{LeaveOptions}
-use Rattle.frame.specs.declared.ReceivedFrame.{ReceivedFrame}
-use Rattle.frame.specs.declared.Source.{Source}
-use Rattle.parent_timer.specs.Timer.{ticked}
+use Rattle.management.specs.declared.frame.LeaveOptions.{LeaveOptions}
+use Rattle.management.specs.declared.frame.ReceivedFrame.{ReceivedFrame}
+use Rattle.management.specs.declared.frame.Source.{Source}
+use Rattle.supervision.specs.Timer.{ticked}
 use Rattle.nlme.specs.Fields.{withNib, withAddress}
 use Rattle.nlme.specs.Nlme.{seqUsed, refreshed, linkFailure, expirySignalled}
 use Rattle.nlme.specs.declared.Nlme.{Nlme}
-use Rattle.received.specs.Received.{rejoinSignalled, rejoinResponded, timeoutSignalled, stored, timeoutResponded, neighborLeaving, neighborLeft, acceptsLeave, announcement, dealtWith, leaveRequested, leaveHandled, handled, leaveAnnounced}
-use Rattle.received.specs.declared.Handled.{Handled}
-use Rattle.received.specs.declared.TableChange.{TableChange}
-use Rattle.received.specs.declared.Then.{Then}
+use Rattle.nlme.specs.Received.{rejoinSignalled, rejoinResponded, timeoutSignalled, stored, timeoutResponded, neighborLeaving, neighborLeft, acceptsLeave, announcement, dealtWith, leaveRequested, leaveHandled, handled, leaveAnnounced}
+use Rattle.nlme.specs.declared.received.Handled.{Handled}
+use Rattle.nlme.specs.declared.received.TableChange.{TableChange}
+use Rattle.nlme.specs.declared.received.Then.{Then}
 use Rattle.operation.specs.Operation.{For, awaited, unawaited, scanFor, associationFor, transmissionFor, receptionFor, isIdle}
 use Rattle.operation.specs.declared.Control.{Control}
 use Rattle.operation.specs.declared.Decision.{Decision}
@@ -37,7 +37,7 @@ use Rattle.operation.specs.declared.TransmissionFor.{TransmissionFor}
 use Rattle.exchange.specs.Exchange.{receiveStarted}
 use Rattle.node.specs.Looks.{parent, broadcast, next, finish}
 use Rattle.node.specs.Refusals.{refuse, start, outcome}
-use Rattle.node.specs.Calls.{withChosen, associate, joinBy, scanFailed, heard, scanHeard, scanOver, continuing, goOn, withNode, changed, after, handledOn, taughtOn, processed, receptionOver, afterLeave, transmissionOver, Call, discovery, join, send, poll, receive, timeout, scan, association, transmission, reception, elapsed, takeLeave, takeStatus, made, answer}
+use Rattle.node.specs.Calls.{withChosen, associate, joinBy, scanFailed, withScan, scanHeard, scanOver, continuing, goOn, withNode, tableChanged, after, handledOn, taughtOn, processed, receptionOver, afterLeave, transmissionOver, Call, discovery, join, send, poll, receive, timeout, scan, association, transmission, reception, elapsed, takeLeave, takeStatus, made, answer}
 use Rattle.node.specs.declared.Answer.{Answer}
 use Rattle.node.specs.declared.ReceptionOutcome.{ReceptionOutcome}
 use Rattle.node.specs.declared.ScanOutcome.{ScanOutcome}
@@ -56,7 +56,7 @@ slot n = n .signals .«leave_indication»
 after-slot : (u : Purpose) (t : Then) (s : State) → indication (after u t s .state) ≡ indication s
 unfolding after finish
 after-slot u (Then.Over a) s = continuing-made u a (parent s) (next s) (s .control) .1
-after-slot u (Then.Announce t rejoin) s = refl
+after-slot u (Then.Announce a) s = refl
 
 -- once it is over, no announcement is awaited
 over-phase : (u : Purpose) (a : PollAnswer) (s : State) → NotLeaving (phase (after u (Then.Over a) s .state))
@@ -68,19 +68,19 @@ handled-told : (u : Purpose) (h : Handled) (s : State) → NotTaken (handledOn u
 unfolding after finish
 handled-told u h s = go (h .then)
   where
-    go : (t : Then) → NotTaken (after u t (changed (h .change) (withNode (h .nlme) s)) .step)
+    go : (t : Then) → NotTaken (after u t (tableChanged (h .change) (withNode (h .nlme) s)) .step)
     go (Then.Over a) = continuing-made u a _ _ _ .3
-    go (Then.Announce t rejoin) = tt
+    go (Then.Announce a) = tt
 
-changed-control : (c : TableChange) (s : State) → changed c s .control ≡ s .control
-unfolding changed
+changed-control : (c : TableChange) (s : State) → tableChanged c s .control ≡ s .control
+unfolding tableChanged
 changed-control TableChange.KeepTable s = refl
 changed-control (TableChange.RemoveNeighbor a) s = refl
 
 -- the slot is what the frame's handling leaves in it
 handled-slot : (u : Purpose) (h : Handled) (s : State) → indication (handledOn u h s .state) ≡ slot (h .nlme)
 handled-slot u h s =
-    after-slot u (h .then) (changed (h .change) (withNode (h .nlme) s)) ∙ ap (λ (c : Control). slot (c .nlme)) (changed-control (h .change) (withNode (h .nlme) s))
+    after-slot u (h .then) (tableChanged (h .change) (withNode (h .nlme) s)) ∙ ap (λ (c : Control). slot (c .nlme)) (changed-control (h .change) (withNode (h .nlme) s))
 
 -- responses
 rejoin-slot : (r : RejoinResponse) (n : Nlme) → slot (rejoinResponded r n) ≡ slot n
@@ -142,7 +142,7 @@ module _ (u : Purpose) (s : State) (f : Source) (d : ShortAddress) (o : LeaveOpt
 
   -- a request: the slot stays, and an accepted one is announced
   abbrev announcedThen : Handled
-  announcedThen = record { nlme = seqUsed n; change = TableChange.KeepTable; then = Then.Announce (announcement n (parent here) (broadcast here) o) (o .rejoin) }
+  announcedThen = record { nlme = seqUsed n; change = TableChange.KeepTable; then = Then.Announce (record { transmission = announcement n (parent here) (broadcast here) o; rejoin = o .rejoin }) }
 
   abbrev declined : Handled
   declined = dealtWith n PollAnswer.PollNothing
@@ -219,7 +219,7 @@ join-got s r RejoinNetwork.ChannelChange = made-got s (join r) false _ _ (refl, 
 
 -- a scan
 scan-got : (s : State) (o : ScanOutcome) (u : ScanFor) → Got s (scan o) (scanOver o u s)
-unfolding scanOver scanFailed scanHeard heard withChosen
+unfolding scanOver scanFailed scanHeard withScan withChosen
 scan-got s o u =
     by-cases (Got s (scan o)) (o .failed) (λ _. failed u)
     (by-cases (Got s (scan o)) (ltb 27 (o .list .count)) (λ _. refused-got s (scan o) 3)
@@ -229,7 +229,7 @@ scan-got s o u =
     failed ScanFor.Discovery = made-got s (scan o) false _ _ (refl, refl, tt, tt)
     failed ScanFor.Rejoin = made-got s (scan o) false _ _ (refl, refl, tt, tt)
 
-    found : (v : ScanFor) → Got s (scan o) (scanHeard v (heard (descriptorsOf (o .list)) s))
+    found : (v : ScanFor) → Got s (scan o) (scanHeard v (withScan (descriptorsOf (o .list)) s))
     found ScanFor.Discovery = made-got s (scan o) false _ _ (refl, refl, tt, tt)
     found ScanFor.Rejoin = made-got s (scan o) false _ _ (next-made _ _ (s .control))
 

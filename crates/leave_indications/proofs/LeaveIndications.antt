@@ -8,11 +8,11 @@ use Rattle.nib.specs.declared.OptionalIeee.{OptionalIeee}
 use Rattle.nib.specs.declared.ShortAddress.{ShortAddress}
 use Rattle.management.specs.declared.LeaveIndicationSlot.{LeaveIndicationSlot}
 use Rattle.management.specs.declared.LeavingDevice.{LeavingDevice}
-use Rattle.frame.specs.declared.LeaveOptions.{LeaveOptions}
-use Rattle.frame.specs.declared.ReceivedFrame.{ReceivedFrame}
-use Rattle.frame.specs.declared.Source.{Source}
-use Rattle.received.specs.Received.{neighborLeaving}
-use Rattle.parent_timer.specs.declared.ParentTimer.{ParentTimer}
+use Rattle.management.specs.declared.frame.LeaveOptions.{LeaveOptions}
+use Rattle.management.specs.declared.frame.ReceivedFrame.{ReceivedFrame}
+use Rattle.management.specs.declared.frame.Source.{Source}
+use Rattle.nlme.specs.Received.{neighborLeaving}
+use Rattle.supervision.specs.declared.parent_timer.ParentTimer.{ParentTimer}
 use Rattle.operation.specs.Operation.{For, unawaited, isIdle, scanFor, associationFor, transmissionFor, receptionFor}
 use Rattle.operation.specs.declared.Phase.{Phase}
 use Rattle.operation.specs.declared.Purpose.{Purpose}
@@ -25,7 +25,7 @@ use Rattle.node.specs.declared.Answer.{Answer}
 use Rattle.node.specs.declared.ReceptionOutcome.{ReceptionOutcome}
 use Rattle.node.specs.declared.ScanOutcome.{ScanOutcome}
 use Rattle.node.specs.declared.State.{State}
-use Rattle.lent_tick.specs.LentTick.{withTimer, turnedDown, leaving, lentTick}
+use Rattle.lent_tick.specs.LentTick.{withTimer, turnedDown, withRecord, lentTick}
 use Rattle.lent_tick.specs.declared.LentTicked.{LentTicked}
 use Rattle.refusals.specs.Statement.{phase, Bad}
 use Rattle.refusals.proofs.Conditions.{Tells, holds, fails, bad-told}
@@ -238,7 +238,7 @@ module _ (t : ParentTimer) (ms : ℕ) (s : State) where
   lent-by : (P : State → Type 0) → P s → P (withTimer t s) → P (made (withTimer t s) (elapsed ms) .state) → P (lentTick t ms s .answer .state)
   unfolding lentTick answer refuse
   lent-by P h k m =
-      by-cases (λ (x : LentTicked). P (x .answer .state)) (bad s) {x = turnedDown t s} {y = leaving (answer (withTimer t s) (elapsed ms))} (λ _. h)
+      by-cases (λ (x : LentTicked). P (x .answer .state)) (bad s) {x = turnedDown t s} {y = withRecord (answer (withTimer t s) (elapsed ms))} (λ _. h)
       (by-cases (λ (x : Answer). P (x .state)) (bad (withTimer t s)) {x = refuse 5 (withTimer t s)} {y = made (withTimer t s) (elapsed ms)} (λ _. k) m)
 
   lent : (indication (lentTick t ms s .answer .state) ≡ indication s) × (phase (lentTick t ms s .answer .state) ≡ phase s)

@@ -15,14 +15,14 @@ use Rattle.nib.specs.declared.NeighborTable.{NeighborTable}
 use Rattle.nib.specs.declared.NwkNeighbor.{NwkNeighbor}
 use Rattle.nib.specs.declared.OptionalIeee.{OptionalIeee}
 use Rattle.nib.specs.declared.ShortAddress.{ShortAddress}
-use Rattle.neighbor_table.specs.NeighborTable.{hasAddress, isParent, parentOf, seenIn, withIeee, onEntries, learnt}
-use Rattle.neighbor_table.proofs.Entries.{on-same, on-kept, entries-on, learnt-long}
-use Rattle.neighbor_table.proofs.Looks.{parent-cons}
-use Rattle.tries.specs.Tries.{parentIn}
-use Rattle.frame.specs.declared.LeaveOptions.{LeaveOptions}
-use Rattle.frame.specs.declared.ReceivedFrame.{ReceivedFrame}
-use Rattle.frame.specs.declared.Source.{Source}
-use Rattle.received.specs.Received.{taughtBy, taught, fromParent, acceptsLeave}
+use Rattle.nib.specs.NeighborTable.{hasAddress, isParent, parentOf, seenIn, withIeee, onEntries, learnt}
+use Rattle.nib.proofs.Entries.{on-same, on-kept, entries-on, learnt-long}
+use Rattle.nib.proofs.Looks.{parent-cons}
+use Rattle.candidates.specs.Tries.{parentIn}
+use Rattle.management.specs.declared.frame.LeaveOptions.{LeaveOptions}
+use Rattle.management.specs.declared.frame.ReceivedFrame.{ReceivedFrame}
+use Rattle.management.specs.declared.frame.Source.{Source}
+use Rattle.nlme.specs.Received.{taughtBy, taught, fromParent, acceptsLeave}
 use Rattle.node.specs.Looks.{parent}
 use Rattle.node.specs.Calls.{taughtOn}
 use Rattle.node.specs.declared.State.{State}

@@ -13,9 +13,9 @@ use Rattle.nib.specs.declared.OptionalIeee.{OptionalIeee}
 use Rattle.nib.specs.declared.ShortAddress.{ShortAddress}
 use Rattle.management.specs.declared.LeavingDevice.{LeavingDevice}
 use Rattle.management.specs.declared.LeaveIndicationSlot.{LeaveIndicationSlot}
-use Rattle.frame.specs.declared.Source.{Source}
-use Rattle.frame.specs.declared.ReceivedFrame.{ReceivedFrame}
-use Rattle.parent_timer.specs.declared.ParentTimer.{ParentTimer}
+use Rattle.management.specs.declared.frame.Source.{Source}
+use Rattle.management.specs.declared.frame.ReceivedFrame.{ReceivedFrame}
+use Rattle.supervision.specs.declared.parent_timer.ParentTimer.{ParentTimer}
 use Rattle.operation.specs.declared.Purpose.{Purpose}
 use Rattle.operation.specs.declared.TransmissionFor.{TransmissionFor}
 use Rattle.operation.specs.declared.Phase.{Phase}

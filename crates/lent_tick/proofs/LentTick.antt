@@ -7,7 +7,7 @@ use native.Mathlib.Omega.{arith}
 use types.Run.{OneOf, miss}
 use denote.Enum.Declared.{tagOf}
 use Rattle.lists.proofs.Conditions.{pick-true, pick-false}
-use Rattle.parent_timer.specs.declared.ParentTimer.{ParentTimer}
+use Rattle.supervision.specs.declared.parent_timer.ParentTimer.{ParentTimer}
 use Rattle.operation.specs.declared.Step.the-variants.{Refused}
 use Rattle.operation.proofs.Step.{the-type}
 use Rattle.node.specs.Looks.{finish}
@@ -17,7 +17,7 @@ use Rattle.node.specs.declared.State.{State}
 use Rattle.node.specs.declared.Answer.{Answer}
 use Rattle.lent_tick.specs.declared.LentTicked.{LentTicked}
 use Rattle.lent_tick.specs.OwnRecord.{OwnRecord}
-use Rattle.lent_tick.specs.LentTick.{timerOf, withTimer, turnedDown, leaving, lentTick}
+use Rattle.lent_tick.specs.LentTick.{timerOf, withTimer, withState, turnedDown, withRecord, lentTick}
 
 -- the tag of a tick's answer: 0 for a refusal, 9 for one that says whether the timer expired
 tag-of : (ms : ℕ) (s : State) → tagOf the-type (answer s (elapsed ms) .step) ≡ cond (bad s) 0 9
@@ -38,28 +38,35 @@ module _ (t : ParentTimer) (ms : ℕ) (s : State) (a : Answer) (e : a ≡ answer
   unfolding bad
   tag = ap (λ (x : Answer). tagOf the-type (x .step)) e ∙ tag-of ms (withTimer t s)
 
-  pub if-refused : (n : ℕ) → a .step ≡ Refused n → turnedDown t s ≡ lentTick t ms s
+  -- the refusal of the state with the lent record is, with the state as handed in, the one of that state
+  refused-alike : bad s ≡ true → withState s a ≡ refuse 5 s
+  unfolding answer bad refuse
+  refused-alike q = ap (withState s) (e ∙ sym (pick-true (bad s) (refuse 5 (withTimer t s)) _ q))
+
+  pub if-refused : (n : ℕ) → a .step ≡ Refused n → record { timer = t; answer = withState s a } ≡ lentTick t ms s
   unfolding lentTick
-  if-refused n h = pick-true (bad s) _ _ (go (bad s) (sym tag ∙ ap (tagOf the-type) h))
+  if-refused n h =
+      let q = go (bad s) (sym tag ∙ ap (tagOf the-type) h) in
+      ap (λ (x : Answer). record { timer = t; answer = x }) (refused-alike q) ∙ pick-true (bad s) _ _ q
     where
       go : (b : Bool) → cond {A = ℕ} b 0 9 ≡ 0 → b ≡ true
       go true q = refl
       go false q = absurd (omega arith)
 
-  pub if-not-refused : OneOf noRefusal (tagOf the-type (a .step)) → leaving a ≡ lentTick t ms s
+  pub if-not-refused : OneOf noRefusal (tagOf the-type (a .step)) → withRecord a ≡ lentTick t ms s
   unfolding lentTick
-  if-not-refused h = ap leaving e ∙ pick-false (bad s) _ _ (go (bad s) (subst (OneOf noRefusal) tag h))
+  if-not-refused h = ap withRecord e ∙ pick-false (bad s) _ _ (go (bad s) (subst (OneOf noRefusal) tag h))
     where
       go : (b : Bool) → OneOf noRefusal (cond b 0 9) → b ≡ false
       go true q = absurd (miss noRefusal 0 tt q)
       go false q = refl
 
 -- lent the state's own record, the answer is the state's tick, and the record left is that of the state left
-own : (ms : ℕ) (s : State) → lentTick (timerOf s) ms s ≡ leaving (answer s (elapsed ms))
+own : (ms : ℕ) (s : State) → lentTick (timerOf s) ms s ≡ withRecord (answer s (elapsed ms))
 unfolding lentTick answer refuse
 own ms s = go (bad s) _
   where
-    go : (b : Bool) (a : Answer) → cond b (turnedDown (timerOf s) s) (leaving (cond b (refuse 5 s) a)) ≡ leaving (cond b (refuse 5 s) a)
+    go : (b : Bool) (a : Answer) → cond b (turnedDown (timerOf s) s) (withRecord (cond b (refuse 5 s) a)) ≡ withRecord (cond b (refuse 5 s) a)
     go true a = refl
     go false a = refl
 

@@ -1,11 +1,10 @@
 // The tick of the timer interrupt, which lends its timer record and finds it updated there: by value, and over the lent record.
 ghost use mathlib.Core.Path.{_≡_};
-ghost use Rattle.lent_tick.specs.LentTick.{withTimer, turnedDown, leaving, lentTick};
+ghost use Rattle.lent_tick.specs.LentTick.{withTimer, withState, withRecord, lentTick};
 use node::Answer;
 use node::State;
-use operation::Note;
 use operation::Step;
-use parent_timer::ParentTimer;
+use supervision::parent_timer::ParentTimer;
 
 // What a tick leaves in the lent record, and what it answers.
 pub struct LentTicked {
@@ -25,28 +24,22 @@ fn with_timer(state: State, timer: ParentTimer) -> State
     out
 }
 
-fn turned_down(timer: ParentTimer, state: State) -> LentTicked
-    ensures { λ r. ⌜ r ≡ turnedDown timer state ⌝ }
+// A tick that was turned down: the state as handed in, and the record as it was lent.
+fn turned_down(timer: ParentTimer, state: State, refused: Answer) -> LentTicked
+    ensures { λ r. ⌜ r ≡ record { timer = timer; answer = withState state refused } ⌝ }
 {
-    let answer = Answer {
-        state,
-        reset: false,
-        note: Note::NoNote,
-        step: Step::Refused(5),
-        polls_used: 0,
-    };
+    let mut answer = refused;
+    answer.state = state;
     LentTicked { timer, answer }
 }
 
-fn leaving(answer: Answer) -> LentTicked
-    ensures { λ r. ⌜ r ≡ leaving answer ⌝ }
+// A tick that was made: the record of the state that is answered goes into the lent one.
+fn with_record(answer: Answer) -> LentTicked
+    ensures { λ r. ⌜ r ≡ withRecord answer ⌝ }
 {
     let state = answer.state;
-    let left = state.control.nlme.parent_timer;
-    LentTicked {
-        timer: left,
-        answer,
-    }
+    let timer = state.control.nlme.parent_timer;
+    LentTicked { timer, answer }
 }
 
 // A tick of the state with this record in place of its own.
@@ -58,10 +51,10 @@ pub fn tick_with(timer: ParentTimer, state: State, elapsed_ms: u32) -> LentTicke
     let step = answer.step;
     match step {
         Step::Refused(_) => {
-            return turned_down(timer, state);
+            return turned_down(timer, state, answer);
         }
         _ => {
-            return leaving(answer);
+            return with_record(answer);
         }
     }
 }

@@ -11,7 +11,7 @@ use lib.Dec.{ltb}
 use borrow.Author.Tests.{lt-ltb, le-ltb}
 use native.Mathlib.Nat.{le-of-suc-le-suc, not-suc-le-zero}
 use Rattle.lists.specs.Lists.{select, insertBy, over, All}
-use Rattle.lists.specs.Steps.{placeBy, insertAt}
+use Rattle.lists.specs.Private.{placeBy, insertAt}
 
 module _ {A : Type 0} where
   -- one element more, at the code's i + 1

@@ -10,7 +10,7 @@ use lib.Dec.{ltb}
 use lib.ListN.{length, drop, getD, set, length-set}
 use lib.Seq.{set-append-left}
 use Rattle.lists.specs.Lists.{over, firstIndex, some, changeAt, removeFirst}
-use Rattle.lists.specs.Steps.{removeAt}
+use Rattle.lists.specs.Private.{removeAt}
 
 module _ {A : Type 0} where
   -- one passes exactly if the place is within the list

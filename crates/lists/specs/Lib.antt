@@ -1,3 +1,3 @@
 -- The definitions of `lists`.
 pub mod Lists
-pub mod Steps
+pub mod Private

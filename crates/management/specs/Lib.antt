@@ -1,2 +1,3 @@
 -- The definitions of `management`.
 pub mod Signals
+pub mod Frame

@@ -1,6 +1,9 @@
 // Requests, confirms and indications of the NLME, and the slots that hold an indication until it is taken.
 ghost use mathlib.Core.Path.{_≡_};
 ghost use Rattle.management.specs.Signals.{withRejoinResponse, withTimeoutResponse, withLeaveIndication, withStatusIndication};
+
+pub mod frame;
+
 use nib::CapabilityInformation;
 use nib::ExtendedPanId;
 use nib::IeeeAddress;

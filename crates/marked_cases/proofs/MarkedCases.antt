@@ -8,9 +8,9 @@ use native.Mathlib.Omega.{arith}
 use Rattle.nib.specs.Identifiers.{linkCost, bit}
 use Rattle.candidates.specs.UpdateIds.{newest, newer}
 use Rattle.candidates.specs.Candidates.{candidates, eligible, depthAt}
-use Rattle.parent_timer.specs.Timer.{ticked}
+use Rattle.supervision.specs.Timer.{ticked}
 use Rattle.supervision.specs.Timeouts.{timeoutSeconds, negotiatedTimeoutMs, refreshed}
-use Rattle.received.specs.Received.{acceptsLeave}
+use Rattle.nlme.specs.Received.{acceptsLeave}
 use Rattle.marked_cases.specs.MarkedCases.{candidatesOfNone, tickOf, leaveOf, answer, Case, marked, Hold, yard}
 
 abbrev same : List ℕ → List ℕ → Bool

@@ -13,10 +13,10 @@ use Rattle.candidates.specs.UpdateIds.{newest}
 use Rattle.candidates.specs.Candidates.{candidates}
 use Rattle.candidates.specs.declared.Newest.{Newest}
 use Rattle.candidates.specs.declared.Newest.the-variants.{Nothing, Id}
-use Rattle.parent_timer.specs.Timer.{ticked}
-use Rattle.parent_timer.specs.declared.Ticked.{Ticked}
+use Rattle.supervision.specs.Timer.{ticked}
+use Rattle.supervision.specs.declared.parent_timer.Ticked.{Ticked}
 use Rattle.supervision.specs.Timeouts.{refreshed}
-use Rattle.received.specs.Received.{acceptsLeave}
+use Rattle.nlme.specs.Received.{acceptsLeave}
 
 -- an entry by the fields that the choice reads: extended PAN id, depth, permit, router and end device capacity, LQI, update id; potential parent is 1
 abbrev pub entry : ℕ → ℕ → Bool → Bool → Bool → ℕ → ℕ → NwkNeighbor

@@ -8,6 +8,7 @@ ghost use Rattle.lists.specs.Lists.{over};
 ghost use Rattle.nib.specs.Neighbors.{entriesOf};
 ghost use Rattle.text.specs.Text.{decimalText, hexText, rightText};
 ghost use Rattle.neighbor_page.specs.Page.{firstRow, entryRow, blankRow, slotRow, rows, tooShort, written};
+use nib::MAX_NEIGBOUR_TABLE;
 use nib::Neighbor;
 use nib::NeighborTable;
 use nib::NwkNeighbor;
@@ -91,7 +92,7 @@ fn rows_of(table: NeighborTable) -> [[u8; 48]; 17]
     let first = first_row();
     let mut rows = [first; 17];
     let mut i: u8 = 0;
-    while i < 16 {
+    while i < MAX_NEIGBOUR_TABLE {
         let row = slot_row(i, table.get(i));
         let k = i as usize + 1;
         rows[k] = row;

@@ -1,3 +1,5 @@
 -- The definitions of `nib`.
 pub mod Identifiers
 pub mod Neighbors
+pub mod NeighborTable
+pub mod Private

@@ -1,9 +1,11 @@
-// The part of the NWK information base that the decisions read or write: identifiers, link cost, capability bits, attributes and neighbour entries.
+// The part of the NWK information base that the decisions read or write: identifiers, link cost, capability bits, attributes, neighbour entries and their table.
 ghost use mathlib.Core.Path.{_≡_};
 ghost use lib.ListN.{length};
 ghost use Rattle.nib.specs.Identifiers.{linkCost, bit};
 ghost use Rattle.nib.specs.Neighbors.{deviceType, blank, entriesOf, entryAt, tableOf, pushed};
 ghost use mathlib.Core.List.{[]};
+
+pub mod neighbor_table;
 
 // The identifiers are distinct types, so that none is taken for another.
 pub struct PanId(pub u16);
@@ -36,6 +38,9 @@ pub mod relationship {
 
     pub const NONE: u8 = 0x03;
 }
+
+// How many entries the neighbour table holds at most; as many candidates and failure pairs are kept. Spelt as in the source.
+pub const MAX_NEIGBOUR_TABLE: u8 = 16;
 
 // The highest cost of a link to a candidate (Zigbee 3.6.1.4.1.1).
 pub const MAX_PARENT_LINK_COST: u8 = 3;
@@ -150,7 +155,7 @@ pub struct NwkNeighbor {
 
 // The neighbour table: the first `count` entries are in use.
 pub struct NeighborTable {
-    pub entries: [NwkNeighbor; 16],
+    pub entries: [NwkNeighbor; MAX_NEIGBOUR_TABLE as usize],
     pub count: u8,
 }
 
@@ -193,7 +198,7 @@ impl NeighborTable {
         ensures { λ r. ⌜ r ≡ tableOf [] ⌝ }
     {
         let none = blank_entry();
-        let entries = [none; 16];
+        let entries = [none; MAX_NEIGBOUR_TABLE as usize];
         NeighborTable { entries, count: 0 }
     }
 
@@ -202,7 +207,11 @@ impl NeighborTable {
         ensures { λ r. ⌜ r ≡ length (entriesOf self) ⌝ }
     {
         let count = self.count;
-        if count <= 16 { count } else { 16 }
+        if count <= MAX_NEIGBOUR_TABLE {
+            count
+        } else {
+            MAX_NEIGBOUR_TABLE
+        }
     }
 
     // The entry at an index, or that the index is past the table.
@@ -224,7 +233,7 @@ impl NeighborTable {
     {
         let count = self.count;
         let mut out = self;
-        if 16 <= count {
+        if MAX_NEIGBOUR_TABLE <= count {
             return out;
         }
         let at = count as usize;

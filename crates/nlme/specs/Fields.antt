@@ -7,7 +7,7 @@ use Rattle.nib.specs.declared.ShortAddress.{ShortAddress}
 use Rattle.nib.specs.declared.IeeeAddress.{IeeeAddress}
 use Rattle.nib.specs.declared.ExtendedPanId.{ExtendedPanId}
 use Rattle.nib.specs.declared.CapabilityInformation.{CapabilityInformation}
-use Rattle.parent_timer.specs.declared.ParentTimer.{ParentTimer}
+use Rattle.supervision.specs.declared.parent_timer.ParentTimer.{ParentTimer}
 use Rattle.supervision.specs.declared.TransmitFailures.{TransmitFailures}
 use Rattle.management.specs.declared.Signals.{Signals}
 use Rattle.nlme.specs.declared.Nlme.{Nlme}

@@ -5,18 +5,18 @@ use Rattle.nib.specs.declared.ShortAddress.{ShortAddress}
 use Rattle.nib.specs.declared.NwkNeighbor.{NwkNeighbor}
 use Rattle.nib.specs.declared.Neighbor.{Neighbor}
 use Rattle.nib.specs.declared.OptionalIeee.{OptionalIeee}
-use Rattle.neighbor_table.specs.NeighborTable.{knownIeee}
-use Rattle.parent_timer.specs.Timer.{ticked}
-use Rattle.parent_timer.specs.declared.Ticked.{Ticked}
+use Rattle.nib.specs.NeighborTable.{knownIeee}
+use Rattle.supervision.specs.Timer.{ticked}
+use Rattle.supervision.specs.declared.parent_timer.Ticked.{Ticked}
 use Rattle.supervision.specs.declared.FailedSend.{FailedSend}
 use Rattle.supervision.specs.Timeouts as timeouts
 use Rattle.supervision.specs.Failures.{pairRemoved, transmitFailed}
 use Rattle.management.specs.Signals.{withStatusIndication}
 use Rattle.management.specs.declared.SendAnswer.{SendAnswer}
 use Rattle.management.specs.declared.StatusIndicationSlot.{StatusIndicationSlot}
-use Rattle.frame.specs.Frame.{nextSeq}
-use Rattle.frame.specs.declared.CommandHeader.{CommandHeader}
-use Rattle.frame.specs.declared.SentFrame.{SentFrame}
+use Rattle.management.specs.Frame.{nextSeq}
+use Rattle.management.specs.declared.frame.CommandHeader.{CommandHeader}
+use Rattle.management.specs.declared.frame.SentFrame.{SentFrame}
 use Rattle.nlme.specs.declared.Nlme.{Nlme}
 use Rattle.nlme.specs.declared.NlmeTicked.{NlmeTicked}
 use Rattle.nlme.specs.declared.ViaParent.{ViaParent}

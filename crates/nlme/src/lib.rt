@@ -2,29 +2,40 @@
 ghost use mathlib.Core.Path.{_≡_};
 ghost use Rattle.supervision.specs.Keepalive.{keepaliveIntervalMs, keepaliveMethod, negotiatedPollIntervalMs};
 ghost use Rattle.nlme.specs.Nlme.{parentAddress, linkFailure, refreshed, negotiationReset, commandHeader, seqUsed, timeoutRequested, nlmeTicked, sentViaParent, failedViaParent};
-use frame::CommandHeader;
-use frame::SentFrame;
+
+pub mod received;
+
 use management::NlmeNwkStatusIndication;
 use management::SendAnswer;
 use management::Signals;
 use management::StatusIndicationSlot;
+use management::frame;
+use management::frame::CommandHeader;
+use management::frame::SentFrame;
 use nib::Neighbor;
 use nib::Nib;
 use nib::NwkNeighbor;
 use nib::OptionalIeee;
 use nib::PanId;
 use nib::ShortAddress;
-use parent_timer::ParentTimer;
+use nib::neighbor_table;
 use supervision::KeepaliveMethod;
 use supervision::OptionalPeriod;
 use supervision::TransmitFailures;
+use supervision::parent_timer::ParentTimer;
+
+// No timeout request awaits its response.
+pub const NO_PENDING_TIMEOUT: u8 = 0xff;
+
+// The end device timeout where none is negotiated.
+const NO_TIMEOUT_NEGOTIATED: u8 = 0xff;
 
 // The node's own part of the state.
 pub struct Nlme {
     pub nib: Nib,
     // the last sequence number used
     pub nwk_seq: u8,
-    // the index of a timeout request that awaits its response; 255 for none
+    // the index of a timeout request that awaits its response; `NO_PENDING_TIMEOUT` for none
     pub pending_timeout_request: u8,
     pub parent_timer: ParentTimer,
     pub signals: Signals,
@@ -93,7 +104,7 @@ impl Nlme {
         ensures { λ r. ⌜ r ≡ negotiationReset self ⌝ }
     {
         self.nib.parent_information = 0;
-        self.nib.end_device_timeout = 0xff;
+        self.nib.end_device_timeout = NO_TIMEOUT_NEGOTIATED;
         self.parent_timer.remaining_ms = 0;
         self
     }
@@ -177,8 +188,8 @@ impl Nlme {
         ensures { λ r. ⌜ r ≡ sentViaParent parent self ⌝ }
     {
         let address = parent_address(parent);
-        let left = supervision::clear_transmit_failures(self.transmit_failures, address);
-        self.transmit_failures = left;
+        let failures = supervision::clear_transmit_failures(self.transmit_failures, address);
+        self.transmit_failures = failures;
         ViaParent {
             nlme: self.refresh_parent_timeout(),
             answer: SendAnswer::SendOk,
@@ -191,8 +202,8 @@ impl Nlme {
     {
         let address = parent_address(parent);
         let f = supervision::transmit_failed(self.transmit_failures, address);
-        let left = f.failures;
-        self.transmit_failures = left;
+        let failures = f.failures;
+        self.transmit_failures = failures;
         let mut answer = SendAnswer::SendMacError;
         if f.link_failed {
             self = self.parent_link_failure(parent);

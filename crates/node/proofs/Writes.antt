@@ -5,10 +5,10 @@ use mathlib.Core.Bool.{Bool, true, false}
 use lib.ListN.{length}
 use Rattle.nib.specs.Neighbors.{entriesOf}
 use Rattle.nib.specs.declared.NeighborTable.{NeighborTable}
-use Rattle.neighbor_table.specs.NeighborTable.{onEntries, marked, adopted, allCleared, potentialClearedAt}
-use Rattle.neighbor_table.proofs.Entries.{on-on, on-same, entries-on, marked-long, adopted-long, potential-long}
-use Rattle.tries.specs.Tries.{triedIndex, nextIndex, taking, adoptedNext, joinedTried, potentialClearedTried}
-use Rattle.tries.specs.declared.Candidates.{Candidates}
+use Rattle.nib.specs.NeighborTable.{onEntries, marked, adopted, allCleared, potentialClearedAt}
+use Rattle.nib.proofs.Entries.{on-on, on-same, entries-on, marked-long, adopted-long, potential-long}
+use Rattle.candidates.specs.Tries.{triedIndex, nextIndex, taking, adoptedNext, joinedTried, potentialClearedTried}
+use Rattle.candidates.specs.declared.tries.Candidates.{Candidates}
 use Rattle.operation.specs.declared.Move.{Move}
 use Rattle.operation.specs.declared.Move.the-variants.{Stay, TakeNext, AdoptNext, JoinTried}
 use Rattle.node.specs.declared.State.{State}

@@ -8,24 +8,24 @@ use Rattle.nib.specs.Neighbors.{tableOf}
 use Rattle.nib.specs.declared.CapabilityInformation.{CapabilityInformation}
 use Rattle.nib.specs.declared.Neighbor.{Neighbor}
 use Rattle.nib.specs.declared.ShortAddress.{ShortAddress}
-use Rattle.neighbor_table.specs.NeighborTable.{onEntries, retained}
-use Rattle.mlme.specs.Mlme.{descriptorsOf}
-use Rattle.mlme.specs.declared.PanDescriptor.{PanDescriptor}
+use Rattle.nib.specs.NeighborTable.{onEntries, retained}
+use Rattle.discovery.specs.Mlme.{descriptorsOf}
+use Rattle.discovery.specs.declared.mlme.PanDescriptor.{PanDescriptor}
 use Rattle.discovery.specs.Discovery.{neighborsOf, shortAddressed, networkDescriptor, confirmOf}
 use Rattle.discovery.specs.declared.NlmeNetworkDiscoveryConfirm.{NlmeNetworkDiscoveryConfirm}
 use Rattle.candidates.specs.Candidates.{candidates, listOf}
-use Rattle.tries.specs.Tries.{chosenFrom}
+use Rattle.candidates.specs.Tries.{chosenFrom}
 use Rattle.management.specs.declared.RejoinNetwork.{RejoinNetwork}
 use Rattle.management.specs.declared.ScanRange.{ScanRange}
 use Rattle.management.specs.declared.NlmeJoinRequest.{NlmeJoinRequest}
 use Rattle.management.specs.declared.PollAnswer.{PollAnswer}
-use Rattle.frame.specs.declared.ReceivedFrame.{ReceivedFrame}
+use Rattle.management.specs.declared.frame.ReceivedFrame.{ReceivedFrame}
 use Rattle.nlme.specs.Nlme.{nlmeTicked}
 use Rattle.nlme.specs.declared.Nlme.{Nlme}
-use Rattle.received.specs.Received.{taught, handled, leaveAnnounced}
-use Rattle.received.specs.declared.TableChange.{TableChange}
-use Rattle.received.specs.declared.Then.{Then}
-use Rattle.received.specs.declared.Handled.{Handled}
+use Rattle.nlme.specs.Received.{taught, handled, leaveAnnounced}
+use Rattle.nlme.specs.declared.received.TableChange.{TableChange}
+use Rattle.nlme.specs.declared.received.Then.{Then}
+use Rattle.nlme.specs.declared.received.Handled.{Handled}
 use Rattle.operation.specs.Operation.{withNlme, scanFor, associationFor, transmissionFor, receptionFor, isDiscovered, telling, asking, ending}
 use Rattle.operation.specs.declared.TimeoutFor.{TimeoutFor}
 use Rattle.operation.specs.declared.Purpose.{Purpose}
@@ -37,8 +37,8 @@ use Rattle.operation.specs.declared.RadioRequest.{RadioRequest}
 use Rattle.operation.specs.declared.Step.{Step}
 use Rattle.operation.specs.declared.Decision.{Decision}
 use Rattle.join.specs.Join.{failing, joinStarted, associated}
-use Rattle.join.specs.declared.AssociationOutcome.{AssociationOutcome}
-use Rattle.rejoin.specs.Rejoin.{rejoinStarted, tryNext, tryGoesOn, requestSent}
+use Rattle.join.specs.declared.association.AssociationOutcome.{AssociationOutcome}
+use Rattle.join.specs.Rejoin.{rejoinStarted, tryNext, tryGoesOn, requestSent}
 use Rattle.exchange.specs.Exchange.{sendStarted, dataSent, pollStarted, receiveStarted, noData, pollOver, timeoutStarted, timeoutGoesOn, timeoutRequestSent, tickTold, leaveTaken, statusTaken}
 use Rattle.node.specs.declared.State.{State}
 use Rattle.node.specs.declared.Answer.{Answer}
@@ -83,8 +83,8 @@ scanFailed ScanFor.Discovery s = deciding s (ending Step.DiscoveryFailed (s .con
 scanFailed ScanFor.Rejoin s = deciding s (failing NlmeJoinStatus.MacError (s .control))
 
 -- the table made from the scan: "One entry for each short-addressed descriptor, in scan order"
-unfoldable pub heard : List PanDescriptor → State → State
-heard ds s = withTable (tableOf (neighborsOf ds)) s
+unfoldable pub withScan : List PanDescriptor → State → State
+withScan ds s = withTable (tableOf (neighborsOf ds)) s
 
 -- a rejoin goes on to its candidates: "no candidate: NotPermitted"
 abbrev pub rejoinAmong : State → Answer
@@ -100,7 +100,7 @@ unfoldable pub scanOver : ScanOutcome → ScanFor → State → Answer
 scanOver o u s =
     cond (o .failed) (scanFailed u s)
     (cond (ltb 27 (o .list .count)) (refuse 3 s)
-    (cond (ltb 16 (shortAddressed (descriptorsOf (o .list)))) (refuse 4 s) (scanHeard u (heard (descriptorsOf (o .list)) s))))
+    (cond (ltb 16 (shortAddressed (descriptorsOf (o .list)))) (refuse 4 s) (scanHeard u (withScan (descriptorsOf (o .list)) s))))
 
 -- The outcome of an association (01, "Join request and confirm")
 
@@ -123,17 +123,18 @@ abbrev pub withNode : Nlme → State → State
 withNode n s = withControl (withNlme n (s .control)) s
 
 -- what a frame does to the table
-unfoldable pub changed : TableChange → State → State
-changed TableChange.KeepTable s = s
-changed (TableChange.RemoveNeighbor a) s = withTable (tableOf (retained (a .0) (entries s))) s
+unfoldable pub tableChanged : TableChange → State → State
+tableChanged TableChange.KeepTable s = s
+tableChanged (TableChange.RemoveNeighbor a) s = withTable (tableOf (retained (a .0) (entries s))) s
 
 -- a frame is dealt with: the poll goes on, or a leave is announced first
 unfoldable pub after : Purpose → Then → State → Answer
 after u (Then.Over a) s = goOn false u a s
-after u (Then.Announce t rejoin) s = deciding s (asking (Phase.Transmission (TransmissionFor.Leave (record { purpose = u; rejoin = rejoin }))) (RadioRequest.Transmit t) (s .control))
+after u (Then.Announce a) s =
+    deciding s (asking (Phase.Transmission (TransmissionFor.Leave (record { purpose = u; rejoin = a .rejoin }))) (RadioRequest.Transmit (a .transmission)) (s .control))
 
 abbrev pub handledOn : Purpose → Handled → State → Answer
-handledOn u h s = after u (h .then) (changed (h .change) (withNode (h .nlme) s))
+handledOn u h s = after u (h .then) (tableChanged (h .change) (withNode (h .nlme) s))
 
 abbrev pub taughtOn : ReceivedFrame → State → State
 taughtOn f s = withTable (onEntries (taught f) (s .table)) s

@@ -7,9 +7,9 @@ use Rattle.nib.specs.declared.NwkNeighbor.{NwkNeighbor}
 use Rattle.nib.specs.declared.NeighborTable.{NeighborTable}
 use Rattle.nib.specs.declared.Neighbor.{Neighbor}
 use Rattle.nib.specs.declared.OptionalIeee.{OptionalIeee}
-use Rattle.neighbor_table.specs.NeighborTable.{ieeeOf, onEntries}
-use Rattle.tries.specs.Tries.{parentIn, triedIn, nextIn, taking, adoptedNext, joinedTried, potentialClearedTried}
-use Rattle.tries.specs.declared.Candidates.{Candidates}
+use Rattle.nib.specs.NeighborTable.{ieeeOf, onEntries}
+use Rattle.candidates.specs.Tries.{parentIn, triedIn, nextIn, taking, adoptedNext, joinedTried, potentialClearedTried}
+use Rattle.candidates.specs.declared.tries.Candidates.{Candidates}
 use Rattle.operation.specs.declared.Control.{Control}
 use Rattle.operation.specs.declared.Move.{Move}
 use Rattle.operation.specs.declared.Move.the-variants.{Stay, TakeNext, AdoptNext, JoinTried}

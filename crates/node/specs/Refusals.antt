@@ -2,8 +2,8 @@
 use Prim.Native.Nat.{ℕ}
 use mathlib.Core.Bool.{Bool, true, false, cond, _&&_, _||_}
 use lib.Dec.{ltb}
-use Rattle.tries.specs.Tries.{pastTable}
-use Rattle.tries.specs.declared.Candidates.{Candidates}
+use Rattle.candidates.specs.Tries.{pastTable}
+use Rattle.candidates.specs.declared.tries.Candidates.{Candidates}
 use Rattle.operation.specs.Operation.{For, awaited, unawaited, isIdle, associationFor}
 use Rattle.operation.specs.declared.Operation.{Operation}
 use Rattle.operation.specs.declared.Note.the-variants.{NoNote}

@@ -2,25 +2,39 @@
 ghost use mathlib.Core.Path.{_≡_};
 ghost use mathlib.Core.Bool.{true, false, cond, not};
 ghost use Rattle.operation.specs.Operation.{isIdle, associationFor};
+ghost use Rattle.join.specs.Join.{failing};
 ghost use Rattle.node.specs.Looks.{parent, tried, next, deciding};
 ghost use Rattle.node.specs.Refusals.{refuse, pastIn, badBy, bad};
-ghost use Rattle.node.specs.Calls.{joinBy, associate, scanFailed, scanHeard, scanOver, confirmBy, scanned, continuing, goOn, changed, after, handledOn, taughtOn, processed, receptionOver, afterLeave, transmissionOver, answer, choose, pageAnswer, pageLeft, discovery, join, send, poll, receive, timeout, scan, association, transmission, reception, elapsed, takeLeave, takeStatus};
-ghost use Rattle.mlme.specs.Mlme.{descriptorsOf};
+ghost use Rattle.node.specs.Calls.{joinBy, associate, scanFailed, scanHeard, scanOver, confirmBy, scanned, continuing, goOn, tableChanged, after, handledOn, taughtOn, processed, receptionOver, afterLeave, transmissionOver, answer, choose, pageAnswer, pageLeft, discovery, join, send, poll, receive, timeout, scan, association, transmission, reception, elapsed, takeLeave, takeStatus};
+ghost use Rattle.discovery.specs.Mlme.{descriptorsOf};
 ghost use lib.ListN.{length};
 use candidates::CandidateList;
+use candidates::tries;
+use candidates::tries::Candidates;
 use discovery::NlmeNetworkDiscoveryConfirm;
-use frame::ReceivedFrame;
-use join::AssociationOutcome;
+use discovery::mlme::MAX_PAN_DESCRIPTOR_SIZE;
+use discovery::mlme::PanDescriptorList;
+use exchange::negotiation;
+use join::association;
+use join::association::AssociationOutcome;
+use join::rejoin;
+use join::rejoin::REJOIN_RESPONSE_POLL_RETRIES;
 use management::NlmeJoinRequest;
 use management::NlmeJoinStatus;
 use management::PollAnswer;
 use management::RejoinNetwork;
 use management::ScanRange;
-use mlme::PanDescriptorList;
+use management::frame::ReceivedFrame;
 use nib::ExtendedPanId;
+use nib::MAX_NEIGBOUR_TABLE;
 use nib::Neighbor;
 use nib::NeighborTable;
 use nib::ShortAddress;
+use nib::neighbor_table;
+use nlme::received;
+use nlme::received::Handled;
+use nlme::received::TableChange;
+use nlme::received::Then;
 use operation::Control;
 use operation::Decision;
 use operation::Leaving;
@@ -34,11 +48,11 @@ use operation::ScanFor;
 use operation::Step;
 use operation::TimeoutFor;
 use operation::TransmissionFor;
-use received::Handled;
-use received::TableChange;
-use received::Then;
-use tries::Candidates;
 
+// How many short-addressed descriptors a scan has at most: each of them gives an entry of the table.
+const MAX_SHORT_ADDRESSED: usize = MAX_NEIGBOUR_TABLE as usize;
+
+// The state of a node.
 pub struct State {
     pub control: Control,
     pub table: NeighborTable,
@@ -96,19 +110,19 @@ fn is_past(phase: Phase, neighbors: u8, candidates: Candidates) -> bool
 fn is_bad_by(neighbors: u8, failures: u8, candidates: Candidates, operation: Operation) -> bool
     ensures { λ r. ⌜ r ≡ badBy neighbors failures candidates operation ⌝ }
 {
-    if 16 < neighbors {
+    if MAX_NEIGBOUR_TABLE < neighbors {
         return true;
     }
-    if 16 < failures {
+    if MAX_NEIGBOUR_TABLE < failures {
         return true;
     }
-    if 16 < candidates.list.count {
+    if MAX_NEIGBOUR_TABLE < candidates.list.count {
         return true;
     }
-    if 16 < candidates.taken {
+    if MAX_NEIGBOUR_TABLE < candidates.taken {
         return true;
     }
-    if 20 < operation.polls_left {
+    if REJOIN_RESPONSE_POLL_RETRIES < operation.polls_left {
         return true;
     }
     let phase = operation.phase;
@@ -233,8 +247,15 @@ impl State {
             return self.refuse(refusal);
         }
         let request = RadioRequest::Scan(range);
-        let decision = operation::asking(Phase::Scan(ScanFor::Discovery), request, self.control);
+        let decision = operation::asking(self.control, Phase::Scan(ScanFor::Discovery), request);
         self.decided_on(decision)
+    }
+
+    // A join or rejoin ends without success.
+    fn fail_join(self, status: NlmeJoinStatus) -> Answer
+        ensures { λ r. ⌜ r ≡ deciding self (failing status (self .control)) ⌝ }
+    {
+        self.decided_on(join::failing(self.control, status))
     }
 
     // An association: the candidates are chosen from the present table, and the first is tried.
@@ -242,8 +263,7 @@ impl State {
         ensures { λ r. ⌜ r ≡ associate request self ⌝ }
     {
         if self.control.nlme.nib.network_address.0 != nib::NWK_UNASSIGNED_ADDRESS {
-            let decision = join::failing(NlmeJoinStatus::InvalidRequest, self.control);
-            return self.decided_on(decision);
+            return self.fail_join(NlmeJoinStatus::InvalidRequest);
         }
         let require_permit_joining = true;
         self.candidates = tries::chosen(
@@ -254,7 +274,7 @@ impl State {
             request.capability_information,
         );
         let next = self.next();
-        let decision = join::join_started(self.control, request.capability_information, next);
+        let decision = association::start_join(self.control, request.capability_information, next);
         self.decided_on(decision)
     }
 
@@ -266,17 +286,11 @@ impl State {
             RejoinNetwork::Association => return self.associate(request),
             RejoinNetwork::NwkRejoin => {
                 let parent = self.parent();
-                let decision = rejoin::rejoin_started(self.control, request, parent);
+                let decision = rejoin::start_rejoin(self.control, request, parent);
                 return self.decided_on(decision);
             }
-            RejoinNetwork::Orphan => {
-                let decision = join::failing(NlmeJoinStatus::InvalidRequest, self.control);
-                return self.decided_on(decision);
-            }
-            RejoinNetwork::ChannelChange => {
-                let decision = join::failing(NlmeJoinStatus::InvalidRequest, self.control);
-                return self.decided_on(decision);
-            }
+            RejoinNetwork::Orphan => return self.fail_join(NlmeJoinStatus::InvalidRequest),
+            RejoinNetwork::ChannelChange => return self.fail_join(NlmeJoinStatus::InvalidRequest),
         }
     }
 
@@ -298,7 +312,7 @@ impl State {
             return self.refuse(refusal);
         }
         let parent = self.parent();
-        let decision = exchange::send_started(self.control, destination, secure, parent);
+        let decision = exchange::start_send(self.control, destination, secure, parent);
         self.decided_on(decision)
     }
 
@@ -310,7 +324,7 @@ impl State {
             return self.refuse(refusal);
         }
         let parent = self.parent();
-        self.decided_on(exchange::poll_started(self.control, parent))
+        self.decided_on(exchange::start_poll(self.control, parent))
     }
 
     pub fn receive(self) -> Answer
@@ -320,7 +334,7 @@ impl State {
         if refusal != 0 {
             return self.refuse(refusal);
         }
-        self.decided_on(exchange::receive_started(self.control))
+        self.decided_on(exchange::start_receive(self.control))
     }
 
     // The start of a negotiation or a keepalive.
@@ -332,7 +346,7 @@ impl State {
             return self.refuse(refusal);
         }
         let parent = self.parent();
-        let decision = negotiation::timeout_started(self.control, purpose, parent);
+        let decision = negotiation::start_timeout_request(self.control, purpose, parent);
         self.decided_on(decision)
     }
 
@@ -356,13 +370,10 @@ impl State {
     {
         match purpose {
             ScanFor::Discovery => {
-                let decision = operation::ending(Step::DiscoveryFailed, self.control);
+                let decision = operation::ending(self.control, Step::DiscoveryFailed);
                 return self.decided_on(decision);
             }
-            ScanFor::Rejoin => {
-                let decision = join::failing(NlmeJoinStatus::MacError, self.control);
-                return self.decided_on(decision);
-            }
+            ScanFor::Rejoin => return self.fail_join(NlmeJoinStatus::MacError),
         }
     }
 
@@ -372,7 +383,7 @@ impl State {
     {
         match purpose {
             ScanFor::Discovery => {
-                let decision = operation::ending(Step::Discovered, self.control);
+                let decision = operation::ending(self.control, Step::Discovered);
                 return self.decided_on(decision);
             }
             ScanFor::Rejoin => {
@@ -385,7 +396,7 @@ impl State {
                     self.control.nlme.nib.capability_information,
                 );
                 let next = self.next();
-                let decision = rejoin::try_next(NlmeJoinStatus::NotPermitted, next, self.control);
+                let decision = rejoin::try_next(self.control, NlmeJoinStatus::NotPermitted, next);
                 return self.decided_on(decision);
             }
         }
@@ -399,10 +410,10 @@ impl State {
             return self.scan_failed(purpose);
         }
         let list = outcome.list;
-        if 27 < list.count {
+        if MAX_PAN_DESCRIPTOR_SIZE < list.count {
             return self.refuse(3);
         }
-        if 16 < discovery::short_addressed(list) {
+        if MAX_SHORT_ADDRESSED < discovery::short_addressed(list) {
             return self.refuse(4);
         }
         self.table = discovery::neighbor_table_from(list);
@@ -458,22 +469,23 @@ impl State {
         };
         let tried = self.tried();
         let next = self.next();
-        let decision = join::association_over(self.control, outcome, tried, next);
+        let decision = association::decide_association(self.control, outcome, tried, next);
         self.decided_on(decision)
     }
 
     // What a poll or a receive was for goes on.
-    fn going_on(self, purpose: Purpose, answer: PollAnswer) -> Decision
-        ensures { λ r. ⌜ r ≡ continuing purpose answer (parent self) (next self) (self .control) ⌝ }
+    fn go_on(self, purpose: Purpose, answer: PollAnswer) -> Answer
+        ensures { λ r. ⌜ r ≡ goOn false purpose answer self ⌝ }
     {
         let parent = self.parent();
         let next = self.next();
-        continuing(purpose, answer, parent, next, self.control)
+        let decision = continuing(self.control, purpose, answer, parent, next);
+        self.decided_on(decision)
     }
 
     // What a frame does to the table.
-    fn changed(mut self, change: TableChange) -> State
-        ensures { λ r. ⌜ r ≡ changed change self ⌝ }
+    fn change_table(mut self, change: TableChange) -> State
+        ensures { λ r. ⌜ r ≡ tableChanged change self ⌝ }
     {
         match change {
             TableChange::KeepTable => return self,
@@ -489,13 +501,17 @@ impl State {
         ensures { λ r. ⌜ r ≡ after purpose then self ⌝ }
     {
         match then {
-            Then::Over(answer) => {
-                let decision = self.going_on(purpose, answer);
-                return self.decided_on(decision);
-            }
-            Then::Announce(frame, rejoin) => {
-                let leave = TransmissionFor::Leave(Leaving { purpose, rejoin });
-                let decision = operation::transmit(Phase::Transmission(leave), frame, self.control);
+            Then::Over(answer) => return self.go_on(purpose, answer),
+            Then::Announce(announcement) => {
+                let leave = TransmissionFor::Leave(Leaving {
+                    purpose,
+                    rejoin: announcement.rejoin,
+                });
+                let decision = operation::transmit(
+                    self.control,
+                    Phase::Transmission(leave),
+                    announcement.transmission,
+                );
                 return self.decided_on(decision);
             }
         }
@@ -507,7 +523,7 @@ impl State {
         self.control = operation::with_nlme(self.control, handled.nlme);
         let change = handled.change;
         let then = handled.then;
-        self.changed(change).after(purpose, then)
+        self.change_table(change).after(purpose, then)
     }
 
     // A frame is dealt with once it has taught the table.
@@ -539,13 +555,9 @@ impl State {
             return self.refuse(2);
         };
         match outcome {
-            ReceptionOutcome::NoData => {
-                let decision = self.going_on(purpose, exchange::no_data(purpose));
-                return self.decided_on(decision);
-            }
+            ReceptionOutcome::NoData => return self.go_on(purpose, exchange::no_data(purpose)),
             ReceptionOutcome::ReceptionFailed => {
-                let decision = self.going_on(purpose, PollAnswer::PollMacError);
-                return self.decided_on(decision);
+                return self.go_on(purpose, PollAnswer::PollMacError);
             }
             ReceptionOutcome::Received(frame) => return self.frame_received(purpose, frame),
         }
@@ -554,16 +566,16 @@ impl State {
 
 // What a poll or a receive was for goes on: a single one answers; a rejoin, a negotiation or a keepalive polls on.
 fn continuing(
+    control: Control,
     purpose: Purpose,
     answer: PollAnswer,
     parent: Neighbor,
     next: Neighbor,
-    control: Control,
 ) -> Decision
     ensures { λ r. ⌜ r ≡ continuing purpose answer parent next control ⌝ }
 {
     match purpose {
-        Purpose::RejoinResponse => return rejoin_try::try_goes_on(parent, next, control),
+        Purpose::RejoinResponse => return rejoin::try_goes_on(control, parent, next),
         Purpose::SinglePoll => return exchange::poll_over(control, answer),
         Purpose::SingleReceive => return exchange::poll_over(control, answer),
         Purpose::TimeoutResponse(timeout) => {
@@ -588,13 +600,12 @@ impl State {
     }
 
     // A leave is announced: what the poll was for goes on.
-    fn left(self, leaving: Leaving) -> Answer
+    fn finish_leave(self, leaving: Leaving) -> Answer
         ensures { λ r. ⌜ r ≡ goOn (not (leaving .rejoin)) (leaving .purpose) PollAnswer.PollNothing (afterLeave (leaving .rejoin) self) ⌝ }
     {
         let purpose = leaving.purpose;
         let after = self.after_leave(leaving.rejoin);
-        let decision = after.going_on(purpose, PollAnswer::PollNothing);
-        let mut answer = after.decided_on(decision);
+        let mut answer = after.go_on(purpose, PollAnswer::PollNothing);
         answer.reset = !leaving.rejoin;
         answer
     }
@@ -606,7 +617,7 @@ impl State {
             TransmissionFor::RejoinRequest => {
                 let parent = self.parent();
                 let next = self.next();
-                let decision = rejoin_try::request_sent(sent, parent, next, self.control);
+                let decision = rejoin::request_sent(self.control, sent, parent, next);
                 return self.decided_on(decision);
             }
             TransmissionFor::Data => {
@@ -624,7 +635,7 @@ impl State {
                 );
                 return self.decided_on(decision);
             }
-            TransmissionFor::Leave(leaving) => return self.left(leaving),
+            TransmissionFor::Leave(leaving) => return self.finish_leave(leaving),
         }
     }
 
@@ -652,7 +663,7 @@ impl State {
             return self.refuse(5);
         }
         let parent = self.parent();
-        self.decided_on(exchange::ticked(self.control, parent, elapsed_ms))
+        self.decided_on(exchange::decide_tick(self.control, parent, elapsed_ms))
     }
 
     pub fn take_leave_indication(self) -> Answer
@@ -683,7 +694,7 @@ impl State {
     {
         if self.is_bad() {
             let list = CandidateList {
-                indexes: [0; 16],
+                indexes: [0; MAX_NEIGBOUR_TABLE as usize],
                 count: 0,
             };
             return Choice { refusal: 5, list };
@@ -712,6 +723,6 @@ impl State {
         if !neighbor_page::write_page(page, self.table) {
             return self.refuse(6);
         }
-        self.decided_on(operation::telling(Step::PageWritten, self.control))
+        self.decided_on(operation::telling(self.control, Step::PageWritten))
     }
 }

@@ -33,7 +33,7 @@ with p k o =
       «extended_pan_id» = o .«extended_pan_id»;
       «security_enabled» = o .«security_enabled»;
       scan = o .scan;
-      scanned = o .scanned;
+      «scan_requested» = o .«scan_requested»;
       channel = o .channel;
       «polls_left» = k;
     }
@@ -46,22 +46,22 @@ withPolls k o = with (o .phase) k o
 
 -- where a rejoin stands: whether the scan has been asked for, and the candidate's channel; all else stays
 abbrev rejoinAt : Bool → ℕ → Operation → Operation
-rejoinAt scanned k o =
+rejoinAt requested k o =
     record {
       phase = o .phase;
       «extended_pan_id» = o .«extended_pan_id»;
       «security_enabled» = o .«security_enabled»;
       scan = o .scan;
-      scanned = scanned;
+      «scan_requested» = requested;
       channel = k;
       «polls_left» = o .«polls_left»;
     }
 
 abbrev pub withChannel : ℕ → Operation → Operation
-withChannel k o = rejoinAt (o .scanned) k o
+withChannel k o = rejoinAt (o .«scan_requested») k o
 
-abbrev pub scanAsked : Operation → Operation
-scanAsked o = rejoinAt true (o .channel) o
+abbrev pub scanRequested : Operation → Operation
+scanRequested o = rejoinAt true (o .channel) o
 
 -- the control part awaits something else
 abbrev pub inPhase : Phase → Control → Control

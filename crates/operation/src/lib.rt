@@ -2,6 +2,7 @@
 ghost use mathlib.Core.Path.{_≡_};
 ghost use Rattle.operation.specs.Operation.{withNlme, withPollsLeft, inPhase, isIdle, decided, telling, asking, ending, polled, polling, isDiscovered};
 ghost use Rattle.operation.specs.declared.RadioRequest.the-variants.{Transmit};
+use discovery::mlme::MacCapabilityInformation;
 use management::KeepaliveAnswer;
 use management::LeaveIndicationSlot;
 use management::NegotiationAnswer;
@@ -10,7 +11,6 @@ use management::PollAnswer;
 use management::ScanRange;
 use management::SendAnswer;
 use management::StatusIndicationSlot;
-use mlme::MacCapabilityInformation;
 use nib::ExtendedPanId;
 use nib::Neighbor;
 use nib::NwkNeighbor;
@@ -69,7 +69,7 @@ pub struct Operation {
     pub security_enabled: bool,
     pub scan: ScanRange,
     // the scan has been asked for: candidates are tried, and not the remembered parent
-    pub scanned: bool,
+    pub scan_requested: bool,
     // the candidate's channel, 0 by the remembered parent
     pub channel: u8,
     pub polls_left: u8,
@@ -172,7 +172,7 @@ pub fn in_phase(control: Control, phase: Phase) -> Control
     let extended_pan_id = now.extended_pan_id;
     let security_enabled = now.security_enabled;
     let scan = now.scan;
-    let scanned = now.scanned;
+    let scan_requested = now.scan_requested;
     let channel = now.channel;
     let polls_left = now.polls_left;
     let operation = Operation {
@@ -180,7 +180,7 @@ pub fn in_phase(control: Control, phase: Phase) -> Control
         extended_pan_id,
         security_enabled,
         scan,
-        scanned,
+        scan_requested,
         channel,
         polls_left,
     };
@@ -201,7 +201,7 @@ pub fn is_idle(phase: Phase) -> bool
 }
 
 // A decision that uses no poll and leaves the candidate being tried a potential parent.
-pub fn decided(candidate: Move, note: Note, step: Step, control: Control) -> Decision
+pub fn decided(control: Control, candidate: Move, note: Note, step: Step) -> Decision
     ensures { λ r. ⌜ r ≡ decided candidate note step control ⌝ }
 {
     Decision {
@@ -215,50 +215,50 @@ pub fn decided(candidate: Move, note: Note, step: Step, control: Control) -> Dec
 }
 
 // An answer that leaves the operation under way as it is.
-pub fn telling(step: Step, control: Control) -> Decision
+pub fn telling(control: Control, step: Step) -> Decision
     ensures { λ r. ⌜ r ≡ telling step control ⌝ }
 {
-    decided(Move::Stay, Note::NoNote, step, control)
+    decided(control, Move::Stay, Note::NoNote, step)
 }
 
 // A request to the radio, whose outcome is awaited.
-pub fn asking(phase: Phase, request: RadioRequest, control: Control) -> Decision
+pub fn asking(control: Control, phase: Phase, request: RadioRequest) -> Decision
     ensures { λ r. ⌜ r ≡ asking phase request control ⌝ }
 {
-    telling(Step::Ask(request), in_phase(control, phase))
+    telling(in_phase(control, phase), Step::Ask(request))
 }
 
 // The operation is over, with its answer.
-pub fn ending(step: Step, control: Control) -> Decision
+pub fn ending(control: Control, step: Step) -> Decision
     ensures { λ r. ⌜ r ≡ ending step control ⌝ }
 {
-    telling(step, in_phase(control, Phase::Idle))
+    telling(in_phase(control, Phase::Idle), step)
 }
 
 // A frame is handed to the radio.
-pub fn transmit(phase: Phase, frame: Transmission, control: Control) -> Decision
+pub fn transmit(control: Control, phase: Phase, frame: Transmission) -> Decision
     ensures { λ r. ⌜ r ≡ asking phase (Transmit frame) control ⌝ }
 {
-    asking(phase, RadioRequest::Transmit(frame), control)
+    asking(control, phase, RadioRequest::Transmit(frame))
 }
 
 // A poll of the parent, for a purpose: the only step that uses a poll.
-pub fn poll(purpose: Purpose, parent: NwkNeighbor, control: Control) -> Decision
+pub fn poll(control: Control, purpose: Purpose, parent: NwkNeighbor) -> Decision
     ensures { λ r. ⌜ r ≡ polled purpose parent control ⌝ }
 {
     let pan_id = control.nlme.nib.panid;
     let address = parent.network_address;
     let mut polled = asking(
+        control,
         Phase::Reception(purpose),
         RadioRequest::Poll(pan_id, address),
-        control,
     );
     polled.polls_used = 1;
     polled
 }
 
 // The next of the polls for a response. With no parent those left are used up at once.
-pub fn poll_on(parent: Neighbor, mut control: Control) -> Polling
+pub fn poll_on(mut control: Control, parent: Neighbor) -> Polling
     ensures { λ r. ⌜ r ≡ polling parent control ⌝ }
 {
     match parent {
@@ -267,12 +267,12 @@ pub fn poll_on(parent: Neighbor, mut control: Control) -> Polling
             return Polling { parent, control };
         }
         Neighbor::Entry(_) => {
-            let left = control.operation.polls_left;
-            if left == 0 {
+            let remaining = control.operation.polls_left;
+            if remaining == 0 {
                 let parent = Neighbor::Absent;
                 return Polling { parent, control };
             }
-            control = with_polls(control, left - 1);
+            control = with_polls(control, remaining - 1);
             return Polling { parent, control };
         }
     }

@@ -9,12 +9,12 @@ use borrow.Author.Tests.{ltb-true, ltb-false}
 use lib.Dec.{ltb}
 use lib.ListN.{length, drop}
 use Rattle.lists.specs.Lists.{some}
-use Rattle.mlme.specs.declared.Address.{Address}
-use Rattle.mlme.specs.declared.PanDescriptor.{PanDescriptor}
+use Rattle.discovery.specs.declared.mlme.Address.{Address}
+use Rattle.discovery.specs.declared.mlme.PanDescriptor.{PanDescriptor}
 use Rattle.discovery.specs.Discovery.{neighborBy, present, neighborsOf, shortAddressed}
 use Rattle.candidates.specs.Candidates.{itemsOf}
-use Rattle.tries.specs.Tries.{pastTable}
-use Rattle.tries.specs.declared.Candidates.{Candidates}
+use Rattle.candidates.specs.Tries.{pastTable}
+use Rattle.candidates.specs.declared.tries.Candidates.{Candidates}
 use Rattle.operation.specs.Operation.{For, awaited, unawaited, isIdle, scanFor, associationFor, transmissionFor, receptionFor}
 use Rattle.operation.specs.declared.Purpose.{Purpose}
 use Rattle.operation.specs.declared.ScanFor.{ScanFor}

@@ -29,9 +29,9 @@ use Rattle.operation.specs.declared.Step.{Step}
 use Rattle.operation.specs.declared.Decision.{Decision}
 use Rattle.operation.specs.declared.Polling.{Polling}
 use Rattle.join.specs.Join.{associating, joinStarted, joinedBy, candidateFailed, succeeded, associated}
-use Rattle.join.specs.declared.AssociationResponse.{AssociationResponse}
-use Rattle.join.specs.declared.AssociationOutcome.{AssociationOutcome}
-use Rattle.rejoin.specs.Rejoin.{invalid, trying, scanOrEnd, tryRemembered, rejoinStarted, tryCandidate, tryNext, tryFailed, rejoined, responded, answeredBy, requestSent}
+use Rattle.join.specs.declared.association.AssociationResponse.{AssociationResponse}
+use Rattle.join.specs.declared.association.AssociationOutcome.{AssociationOutcome}
+use Rattle.join.specs.Rejoin.{invalid, trying, scanOrEnd, tryRemembered, rejoinStarted, tryCandidate, tryNext, tryFailed, rejoined, responded, answeredBy, requestSent}
 use Rattle.exchange.specs.Exchange.{sendStarted, dataSent, pollStarted, pollOver, accepted, timeoutFailed, timeoutStarted, timeoutAnsweredBy, timeoutRequestSent}
 use Rattle.node.specs.Calls.{continuing}
 
@@ -137,7 +137,7 @@ next-made st (Neighbor.Entry e) c = (refl, refl, tt, tt)
 
 failed-made : (st : NlmeJoinStatus) (x : Neighbor) (c : Control) → Made c (tryFailed st x c)
 unfolding tryFailed
-failed-made st x c = by-cases (Made c) (c .operation .scanned) (λ _. next-made st x c) (scan-made st c)
+failed-made st x c = by-cases (Made c) (c .operation .«scan_requested») (λ _. next-made st x c) (scan-made st c)
 
 rejoined-made : (r : RejoinResponse) (c : Control) → Made c (rejoined r c)
 unfolding rejoined

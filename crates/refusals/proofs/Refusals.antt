@@ -8,13 +8,13 @@ use native.Mathlib.Omega.{arith}
 use lib.Dec.{eqb, ltb}
 use lib.ListN.{length}
 use Rattle.lists.proofs.Conditions.{by-cases}
-use Rattle.mlme.specs.Mlme.{descriptorsOf}
+use Rattle.discovery.specs.Mlme.{descriptorsOf}
 use Rattle.discovery.specs.Discovery.{shortAddressed}
 use Rattle.management.specs.declared.RejoinNetwork.{RejoinNetwork}
 use Rattle.management.specs.declared.NlmeJoinRequest.{NlmeJoinRequest}
 use Rattle.management.specs.declared.PollAnswer.{PollAnswer}
-use Rattle.received.specs.declared.Then.{Then}
-use Rattle.parent_timer.specs.declared.ParentTimer.{ParentTimer}
+use Rattle.nlme.specs.declared.received.Then.{Then}
+use Rattle.supervision.specs.declared.parent_timer.ParentTimer.{ParentTimer}
 use Rattle.operation.specs.Operation.{telling, For, awaited, unawaited, scanFor, associationFor, transmissionFor, receptionFor}
 use Rattle.operation.specs.declared.Purpose.{Purpose}
 use Rattle.operation.specs.declared.ScanFor.{ScanFor}
@@ -26,13 +26,13 @@ use Rattle.exchange.specs.Exchange.{receiveStarted}
 use Rattle.neighbor_page.specs.Page.{tooShort, written}
 use Rattle.node.specs.Looks.{potentialCleared, moved, finish, deciding}
 use Rattle.node.specs.Refusals.{refuse, bad, start, outcome}
-use Rattle.node.specs.Calls.{associate, joinBy, scanFailed, heard, scanHeard, scanOver, goOn, after, receptionOver, afterLeave, transmissionOver, Call, discovery, join, send, poll, receive, timeout, scan, association, transmission, reception, elapsed, takeLeave, takeStatus, made, answer, confirmBy, scanned, choose, pageAnswer, pageLeft}
+use Rattle.node.specs.Calls.{associate, joinBy, scanFailed, withScan, scanHeard, scanOver, goOn, after, receptionOver, afterLeave, transmissionOver, Call, discovery, join, send, poll, receive, timeout, scan, association, transmission, reception, elapsed, takeLeave, takeStatus, made, answer, confirmBy, scanned, choose, pageAnswer, pageLeft}
 use Rattle.node.specs.declared.State.{State}
 use Rattle.node.specs.declared.Answer.{Answer}
 use Rattle.node.specs.declared.Choice.{Choice}
 use Rattle.node.specs.declared.ScanOutcome.{ScanOutcome}
 use Rattle.node.specs.declared.ReceptionOutcome.{ReceptionOutcome}
-use Rattle.lent_tick.specs.LentTick.{withTimer, turnedDown, leaving, lentTick}
+use Rattle.lent_tick.specs.LentTick.{withTimer, turnedDown, withRecord, lentTick}
 use Rattle.lent_tick.specs.declared.LentTicked.{LentTicked}
 use Rattle.refusals.specs.Statement.{phase, Bad, UnderWay, Above27, Above16, numbers, First, TurnedDown, Answered, Demand1}
 use Rattle.refusals.proofs.Conditions.{Tells, holds, fails, Told, awaits, awaits-none, same-told, above-told, bad-told, idle-told, scan-told, association-told, transmission-told, reception-told, shorts-are}
@@ -104,7 +104,7 @@ scan-made o s u = go (o .failed) refl
         → Gets s
         (cond b (scanFailed u s)
         (cond (ltb 27 (o .list .count)) (refuse 3 s)
-        (cond (ltb 16 (shortAddressed (descriptorsOf (o .list)))) (refuse 4 s) (scanHeard u (heard (descriptorsOf (o .list)) s)))))
+        (cond (ltb 16 (shortAddressed (descriptorsOf (o .list)))) (refuse 4 s) (scanHeard u (withScan (descriptorsOf (o .list)) s)))))
         ((3, Above27 o) ∷ (4, Above16 o) ∷ [])
     go true e = passed (λ (h : Above27 o). false≢true (sym (h .0) ∙ e)) (passed (λ (h : Above16 o). false≢true (sym (h .0) ∙ e)) (done (scanFailed-made u s)))
     go false e =
@@ -119,7 +119,7 @@ goOn-made reset u a s = carried reset s _ (continuing-made u a _ _ _ .0)
 after-made : (u : Purpose) (t : Then) (s : State) → Done (after u t s)
 unfolding after
 after-made u (Then.Over a) s = goOn-made false u a s
-after-made u (Then.Announce t rejoin) s = carried false s _ refl
+after-made u (Then.Announce a) s = carried false s _ refl
 
 reception-made : (o : ReceptionOutcome) (s : State) (u : Purpose) → Done (receptionOver o u s)
 unfolding receptionOver
@@ -158,7 +158,7 @@ unfolding lentTick answer bad
 lent-made t ms s = go (bad-told s)
   where
     go : {b : Bool} → Tells (Bad s) b
-        → Gets s (cond b (turnedDown t s) (leaving (cond b (refuse 5 (withTimer t s)) (made (withTimer t s) (elapsed ms)))) .answer) ((5, Bad s) ∷ [])
+        → Gets s (cond b (turnedDown t s) (withRecord (cond b (refuse 5 (withTimer t s)) (made (withTimer t s) (elapsed ms)))) .answer) ((5, Bad s) ∷ [])
     go (holds h) = turned h refl
     go (fails h) = passed h (done (carried false (withTimer t s) _ refl))
 

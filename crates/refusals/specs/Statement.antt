@@ -7,8 +7,8 @@ use mathlib.Core.Bool.{Bool, false}
 use mathlib.Core.List.{List, [], _∷_, map}
 use mathlib.Core.Logic.{_⊎_, _↔_}
 use lib.ListN.{length, take, drop}
-use Rattle.mlme.specs.declared.Address.{Address}
-use Rattle.parent_timer.specs.declared.ParentTimer.{ParentTimer}
+use Rattle.discovery.specs.declared.mlme.Address.{Address}
+use Rattle.supervision.specs.declared.parent_timer.ParentTimer.{ParentTimer}
 use Rattle.operation.specs.declared.Purpose.{Purpose}
 use Rattle.operation.specs.declared.ScanFor.{ScanFor}
 use Rattle.operation.specs.declared.TransmissionFor.{TransmissionFor}

@@ -5,9 +5,9 @@ use mathlib.Core.Bool.{Bool, true, false, cond, not, _&&_, false≢true}
 use mathlib.Core.List.{List, [], _∷_}
 use native.Mathlib.Omega.{arith}
 use lib.Dec.{eqb, ltb}
-use Rattle.mlme.specs.Mlme.{descriptorsOf}
+use Rattle.discovery.specs.Mlme.{descriptorsOf}
 use Rattle.nib.specs.Neighbors.{tableOf}
-use Rattle.neighbor_table.specs.NeighborTable.{retained}
+use Rattle.nib.specs.NeighborTable.{retained}
 use Rattle.nib.specs.declared.CapabilityInformation.{CapabilityInformation}
 use Rattle.nib.specs.declared.Neighbor.{Neighbor}
 use Rattle.discovery.specs.Discovery.{shortAddressed}
@@ -16,9 +16,9 @@ use Rattle.management.specs.declared.NlmeJoinRequest.{NlmeJoinRequest}
 use Rattle.management.specs.declared.NlmeJoinStatus.{NlmeJoinStatus}
 use Rattle.management.specs.declared.PollAnswer.{PollAnswer}
 use Rattle.nlme.specs.declared.Nlme.{Nlme}
-use Rattle.received.specs.Received.{handled}
-use Rattle.received.specs.declared.TableChange.{TableChange}
-use Rattle.received.specs.declared.Then.{Then}
+use Rattle.nlme.specs.Received.{handled}
+use Rattle.nlme.specs.declared.received.TableChange.{TableChange}
+use Rattle.nlme.specs.declared.received.Then.{Then}
 use Rattle.operation.specs.declared.Purpose.{Purpose}
 use Rattle.operation.specs.declared.ScanFor.{ScanFor}
 use Rattle.operation.specs.declared.TransmissionFor.{TransmissionFor}
@@ -32,11 +32,11 @@ use Rattle.operation.specs.declared.Move.{Move}
 use Rattle.operation.specs.declared.Decision.{Decision}
 use Rattle.operation.specs.Operation.{withNlme, isIdle, scanFor, associationFor, transmissionFor, receptionFor, telling, asking}
 use Rattle.join.specs.Join.{failing, associating, resetNegotiation, storeCapabilities, joinStarted}
-use Rattle.join.specs.declared.AssociationOutcome.{AssociationOutcome}
-use Rattle.rejoin.specs.Rejoin.{invalid, trying, tryRemembered, begun, rejoinStarted}
+use Rattle.join.specs.declared.association.AssociationOutcome.{AssociationOutcome}
+use Rattle.join.specs.Rejoin.{invalid, trying, tryRemembered, begun, rejoinStarted}
 use Rattle.node.specs.Looks.{withTable, entries, parent, next, broadcast, moved, potentialCleared, finish, deciding}
 use Rattle.node.specs.Refusals.{refuse, bad, outcome}
-use Rattle.node.specs.Calls.{withChosen, associate, joinBy, scanFailed, heard, scanHeard, scanOver, associationOver, continuing, goOn, withNode, changed, after, taughtOn, receptionOver, afterLeave, transmissionOver, Call, discovery, join, send, poll, receive, timeout, scan, association, transmission, reception, elapsed, takeLeave, takeStatus, made, answer}
+use Rattle.node.specs.Calls.{withChosen, associate, joinBy, scanFailed, withScan, scanHeard, scanOver, associationOver, continuing, goOn, withNode, tableChanged, after, taughtOn, receptionOver, afterLeave, transmissionOver, Call, discovery, join, send, poll, receive, timeout, scan, association, transmission, reception, elapsed, takeLeave, takeStatus, made, answer}
 use Rattle.node.specs.declared.State.{State}
 use Rattle.node.specs.declared.Answer.{Answer}
 use Rattle.node.specs.declared.ScanOutcome.{ScanOutcome}
@@ -118,13 +118,13 @@ module _ (s : State) where
   after-within : {m : ℕ} (c : Call) (t : Then) → suc (suc (still s (s .control .operation))) ≤ m → Within m c (after Purpose.RejoinResponse t s)
   unfolding after finish moved potentialCleared
   after-within c (Then.Over a) h = goOn-within c false a (omega arith)
-  after-within c (Then.Announce t rejoin) h =
-      let l : Leaving = record { purpose = Purpose.RejoinResponse; rejoin = rejoin } in
-      carried c false s _ (drops s (asking (Phase.Transmission (TransmissionFor.Leave l)) (RadioRequest.Transmit t) (s .control)) (omega arith))
+  after-within c (Then.Announce a) h =
+      let l : Leaving = record { purpose = Purpose.RejoinResponse; rejoin = a .rejoin } in
+      carried c false s _ (drops s (asking (Phase.Transmission (TransmissionFor.Leave l)) (RadioRequest.Transmit (a .transmission)) (s .control)) (omega arith))
 
 changed-within : {m : ℕ} (c : Call) (s : State) (t : TableChange) (u : Then) → suc (suc (still s (s .control .operation))) ≤ m
-    → Within m c (after Purpose.RejoinResponse u (changed t s))
-unfolding changed
+    → Within m c (after Purpose.RejoinResponse u (tableChanged t s))
+unfolding tableChanged
 changed-within c s TableChange.KeepTable u h = after-within s c u h
 changed-within c s (TableChange.RemoveNeighbor a) u h = after-within (withTable (tableOf (retained (a .0) (entries s))) s) c u h
 
@@ -144,10 +144,10 @@ module _ (s : State) where
       changed-within (reception (ReceptionOutcome.Received f)) (withNode (h .nlme) (taughtOn f s)) (h .change) (h .then) (omega arith)
 
   scanned-within : (o : ScanOutcome) → Phase.Scan ScanFor.Rejoin ≡ s .control .operation .phase → Within (weight (Phase.Scan ScanFor.Rejoin) s) (scan o) (scanOver o ScanFor.Rejoin s)
-  unfolding scanOver scanFailed scanHeard heard withChosen
+  unfolding scanOver scanFailed scanHeard withScan withChosen
   scanned-within o q =
       let ds = descriptorsOf (o .list) in
-      let t = withChosen false (s .control .operation .«extended_pan_id» .0) (s .control .nlme .nib .«capability_information») (heard ds s) in
+      let t = withChosen false (s .control .operation .«extended_pan_id» .0) (s .control .nlme .nib .«capability_information») (withScan ds s) in
       either (Within _ (scan o)) (o .failed) (λ _. carried (scan o) false s _ (failing-drops s _ (s .control) (omega arith)))
       (λ _. either (Within _ (scan o)) (ltb 27 (o .list .count)) (λ _. turned-down s (scan o) 3 (Phase.Scan ScanFor.Rejoin) q)
       (λ _. either (Within _ (scan o)) (ltb 16 (shortAddressed ds)) (λ _. turned-down s (scan o) 4 (Phase.Scan ScanFor.Rejoin) q)
@@ -235,10 +235,10 @@ record Starts (a : Answer) : Type 0 where
 starts : (s : State) (d : Decision) → Drops 699 s d → Starts (finish false s d)
 starts s d h = record { fits = omega (arith, h .fits) }
 
-tryRemembered-drops : (s : State) (parent : Neighbor) (c : Control) → c .operation .scanned ≡ false → Drops 699 s (tryRemembered parent c)
+tryRemembered-drops : (s : State) (parent : Neighbor) (c : Control) → c .operation .«scan_requested» ≡ false → Drops 699 s (tryRemembered parent c)
 unfolding tryRemembered trying finish moved potentialCleared
 tryRemembered-drops s Neighbor.Absent c q = scanOrEnd-drops s NlmeJoinStatus.InvalidRequest c (omega arith)
-tryRemembered-drops s (Neighbor.Entry p) c q = drops s (trying Move.Stay Note.NoNote p c) (omega (arith, rest-false (c .operation .scanned) (s .candidates .taken) q))
+tryRemembered-drops s (Neighbor.Entry p) c q = drops s (trying Move.Stay Note.NoNote p c) (omega (arith, rest-false (c .operation .«scan_requested») (s .candidates .taken) q))
 
 rejoinStarted-drops : (s : State) (r : NlmeJoinRequest) (parent : Neighbor) (c : Control) → Drops 699 s (rejoinStarted r parent c)
 unfolding rejoinStarted

@@ -11,8 +11,8 @@ use Rattle.lists.proofs.Conditions.{split, neither}
 use Rattle.nib.specs.Neighbors.{entryAt, blank}
 use Rattle.nib.specs.declared.NwkNeighbor.{NwkNeighbor}
 use Rattle.nib.specs.declared.Neighbor.{Neighbor}
-use Rattle.neighbor_table.specs.NeighborTable.{seenIn}
-use Rattle.neighbor_table.proofs.Entries.{entries-on, adopted-long}
+use Rattle.nib.specs.NeighborTable.{seenIn}
+use Rattle.nib.proofs.Entries.{entries-on, adopted-long}
 use Rattle.candidates.specs.Candidates.{itemsOf}
 use Rattle.management.specs.declared.NlmeJoinStatus.{NlmeJoinStatus}
 use Rattle.management.specs.declared.RejoinResponseSlot.{RejoinResponseSlot}
@@ -26,11 +26,11 @@ use Rattle.operation.specs.declared.RadioRequest.{RadioRequest}
 use Rattle.operation.specs.declared.Move.{Move}
 use Rattle.operation.specs.declared.Decision.{Decision}
 use Rattle.operation.specs.declared.Polling.{Polling}
-use Rattle.operation.specs.Operation.{withNlme, withOperation, scanAsked, withPollsLeft, asking, polled, polledOr, polling, pollOn}
+use Rattle.operation.specs.Operation.{withNlme, withOperation, scanRequested, withPollsLeft, asking, polled, polledOr, polling, pollOn}
 use Rattle.join.specs.Join.{failing, failedStatus}
-use Rattle.rejoin.specs.Rejoin.{noResponse, trying, scanOrEnd, tryCandidate, tryNext, tryFailed, rejoined, responded, answeredBy, requestSent}
-use Rattle.tries.specs.Tries.{toTry, skipped, nextIndex, nextIn, taking, adoptedNext}
-use Rattle.tries.specs.declared.Candidates.{Candidates}
+use Rattle.join.specs.Rejoin.{noResponse, trying, scanOrEnd, tryCandidate, tryNext, tryFailed, rejoined, responded, answeredBy, requestSent}
+use Rattle.candidates.specs.Tries.{toTry, skipped, nextIndex, nextIn, taking, adoptedNext}
+use Rattle.candidates.specs.declared.tries.Candidates.{Candidates}
 use Rattle.node.specs.Looks.{entries, next, moved, potentialCleared, finish}
 use Rattle.node.specs.Refusals.{bad}
 use Rattle.node.specs.declared.State.{State}
@@ -43,7 +43,7 @@ rest false t = 657
 rest true t = 41 * (16 - t)
 
 abbrev pub later : State → Operation → ℕ
-later s o = rest (o .scanned) (s .candidates .taken)
+later s o = rest (o .«scan_requested») (s .candidates .taken)
 
 -- with those of the polls left and of an announcement in each
 abbrev pub still : State → Operation → ℕ
@@ -68,7 +68,7 @@ toCome (Phase.Transmission (TransmissionFor.Leave l)) k j = ifRejoin (l .purpose
 toCome (Phase.Reception u) k j = ifRejoin u (2 + k)
 
 abbrev pub weight : Phase → State → ℕ
-weight p s = toCome p (still s (s .control .operation)) (42 + rest (s .control .operation .scanned) 1)
+weight p s = toCome p (still s (s .control .operation)) (42 + rest (s .control .operation .«scan_requested») 1)
 
 abbrev pub measure : State → ℕ
 measure s = weight (s .control .operation .phase) s
@@ -164,25 +164,25 @@ module _ {m : ℕ} (s : State) where
   unfolding scanOrEnd finish moved potentialCleared
   scanOrEnd-drops st c h =
       either (Drops m s) (leb (c .operation .scan .past) (c .operation .scan .first)) (λ _. failing-drops st c (omega arith))
-      (λ _. drops s (asking (Phase.Scan ScanFor.Rejoin) (RadioRequest.Scan (c .operation .scan)) (withOperation (scanAsked (c .operation)) c)) h)
+      (λ _. drops s (asking (Phase.Scan ScanFor.Rejoin) (RadioRequest.Scan (c .operation .scan)) (withOperation (scanRequested (c .operation)) c)) h)
 
   -- the next candidate is tried, of those that the state has
   pub tryNext-drops : (st : NlmeJoinStatus) (x : Neighbor) (c : Control) → x ≡ next s → 1 ≤ m
-      → (s .candidates .taken < 16 → 42 + rest (c .operation .scanned) (suc (s .candidates .taken)) ≤ m) → Drops m s (tryNext st x c)
+      → (s .candidates .taken < 16 → 42 + rest (c .operation .«scan_requested») (suc (s .candidates .taken)) ≤ m) → Drops m s (tryNext st x c)
   unfolding tryNext tryCandidate trying finish moved potentialCleared
   tryNext-drops st Neighbor.Absent c q l h = failing-drops st c l
   tryNext-drops st (Neighbor.Entry e) c q l h =
       drops-if s (tryCandidate e c) l
       (λ b. let after = finish false s (tryCandidate e c) .state in
       let more : suc (s .candidates .taken) ≤ after .candidates .taken = adopted-more s (subst IsEntry q tt) in
-      omega (arith, h (omega (arith, few-taken after b)), rest-on (c .operation .scanned) (s .candidates .taken) (after .candidates .taken) more))
+      omega (arith, h (omega (arith, few-taken after b)), rest-on (c .operation .«scan_requested») (s .candidates .taken) (after .candidates .taken) more))
 
   tryFailed-drops : (st : NlmeJoinStatus) (c : Control) → suc (later s (c .operation)) ≤ m → Drops m s (tryFailed st (next s) c)
   unfolding tryFailed
   tryFailed-drops st c h =
-      either (Drops m s) (c .operation .scanned)
-      (λ q. tryNext-drops st (next s) c refl (omega arith) (λ l. omega (arith, rest-true (c .operation .scanned) (s .candidates .taken) q l)))
-      (λ q. scanOrEnd-drops st c (omega (arith, rest-false (c .operation .scanned) (s .candidates .taken) q)))
+      either (Drops m s) (c .operation .«scan_requested»)
+      (λ q. tryNext-drops st (next s) c refl (omega arith) (λ l. omega (arith, rest-true (c .operation .«scan_requested») (s .candidates .taken) q l)))
+      (λ q. scanOrEnd-drops st c (omega (arith, rest-false (c .operation .«scan_requested») (s .candidates .taken) q)))
 
   polls-drop : (p : Neighbor) (c : Control) → suc (still s (c .operation)) ≤ m → Drops m s (pollOn Purpose.RejoinResponse p (tryFailed NlmeJoinStatus.MacError (next s)) c)
   unfolding polling pollOn finish moved potentialCleared

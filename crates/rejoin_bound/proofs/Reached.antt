@@ -9,28 +9,28 @@ use Rattle.nib.specs.Neighbors.{tableOf}
 use Rattle.nib.specs.declared.NwkNeighbor.{NwkNeighbor}
 use Rattle.nib.specs.declared.DeviceType.the-variants.{Router}
 use Rattle.nib.specs.declared.OptionalIeee.the-variants.{NoIeee}
-use Rattle.neighbor_table.specs.NeighborTable.{parentOf, onEntries, adopted, marked}
-use Rattle.mlme.specs.declared.PanDescriptor.{PanDescriptor}
-use Rattle.mlme.specs.declared.Address.the-variants.{Short}
+use Rattle.nib.specs.NeighborTable.{parentOf, onEntries, adopted, marked}
+use Rattle.discovery.specs.declared.mlme.PanDescriptor.{PanDescriptor}
+use Rattle.discovery.specs.declared.mlme.Address.the-variants.{Short}
 use Rattle.discovery.specs.Discovery.{potentialParent, entryOf, neighborBy, present, neighborsOf}
 use Rattle.candidates.specs.UpdateIds.{newer, newest}
 use Rattle.candidates.specs.Candidates.{listOf, eligible, candidates}
-use Rattle.tries.specs.Tries.{parentIn, skipped, nextIndex, nextIn, taking, adoptedNext}
+use Rattle.candidates.specs.Tries.{parentIn, skipped, nextIndex, nextIn, taking, adoptedNext}
 use Rattle.management.specs.declared.RejoinNetwork.the-variants.{NwkRejoin}
 use Rattle.management.specs.declared.NlmeJoinRequest.{NlmeJoinRequest}
 use Rattle.management.specs.declared.RejoinResponseSlot.the-variants.{NoRejoinResponse}
 use Rattle.management.specs.declared.TimeoutResponseSlot.the-variants.{NoTimeoutResponse}
 use Rattle.management.specs.declared.LeaveIndicationSlot.the-variants.{NoLeaveIndication}
 use Rattle.management.specs.declared.StatusIndicationSlot.the-variants.{NoStatusIndication}
-use Rattle.frame.specs.declared.ReceivedFrame.the-variants.{LeaveCommand}
+use Rattle.management.specs.declared.frame.ReceivedFrame.the-variants.{LeaveCommand}
 use Rattle.nlme.specs.Nlme.{negotiationReset}
-use Rattle.received.specs.Received.{taughtBy, taught, acceptsLeave, leaveRequested, leaveHandled, handled, leftFor, leaveAnnounced}
+use Rattle.nlme.specs.Received.{taughtBy, taught, acceptsLeave, leaveRequested, leaveHandled, handled, leftFor, leaveAnnounced}
 use Rattle.operation.specs.Operation.{polling, pollOn}
 use Rattle.operation.specs.declared.Phase.the-variants.{Idle}
-use Rattle.rejoin.specs.Rejoin.{invalid, trying, scanOrEnd, tryRemembered, rejoinStarted, tryCandidate, tryNext, tryFailed, answeredBy, requestSent}
+use Rattle.join.specs.Rejoin.{invalid, trying, scanOrEnd, tryRemembered, rejoinStarted, tryCandidate, tryNext, tryFailed, answeredBy, requestSent}
 use Rattle.node.specs.Looks.{moved, potentialCleared, finish}
 use Rattle.node.specs.Refusals.{bad, outcome}
-use Rattle.node.specs.Calls.{withChosen, joinBy, heard, scanHeard, scanOver, continuing, changed, after, receptionOver, afterLeave, transmissionOver, Call, scan, transmission, reception, answer}
+use Rattle.node.specs.Calls.{withChosen, joinBy, withScan, scanHeard, scanOver, continuing, tableChanged, after, receptionOver, afterLeave, transmissionOver, Call, scan, transmission, reception, answer}
 use Rattle.node.specs.declared.State.{State}
 use Rattle.node.specs.declared.ReceptionOutcome.the-variants.{Received}
 use Rattle.rejoin_bound.specs.Bound.{BoundReached}
@@ -94,7 +94,7 @@ lost =
           «extended_pan_id» = record { 0 = 0 };
           «security_enabled» = false;
           scan = record { first = 0; past = 0; duration = 0 };
-          scanned = false;
+          «scan_requested» = false;
           channel = 0;
           «polls_left» = 0;
         };
@@ -152,7 +152,7 @@ calls = unansweredTry ++ (heardBeacons ∷ times 16 unansweredTry)
 pub bound-reached : BoundReached
 unfolding answer bad outcome joinBy rejoinStarted invalid tryRemembered trying negotiationReset finish moved potentialCleared parentIn parentOf
     transmissionOver requestSent answeredBy polling pollOn tryFailed scanOrEnd receptionOver taught taughtBy onEntries handled leaveHandled leaveRequested
-    acceptsLeave changed after afterLeave leaveAnnounced leftFor continuing scanOver scanHeard heard neighborsOf neighborBy entryOf present
+    acceptsLeave tableChanged after afterLeave leaveAnnounced leftFor continuing scanOver scanHeard withScan neighborsOf neighborBy entryOf present
     potentialParent withChosen candidates eligible linkCost newest newer flatMap tryNext tryCandidate nextIn nextIndex skipped taking adoptedNext
     adopted marked
 bound-reached = (lost, request, calls, refl, refl)

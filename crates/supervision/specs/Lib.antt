@@ -2,3 +2,4 @@
 pub mod Timeouts
 pub mod Keepalive
 pub mod Failures
+pub mod Timer

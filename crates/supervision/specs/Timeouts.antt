@@ -2,7 +2,7 @@
 use Prim.Native.Nat.{ℕ, _-_, _*_, _^_}
 use mathlib.Core.Bool.{cond}
 use lib.Dec.{leb, eqb}
-use Rattle.parent_timer.specs.declared.ParentTimer.{ParentTimer}
+use Rattle.supervision.specs.declared.parent_timer.ParentTimer.{ParentTimer}
 use Rattle.supervision.specs.declared.OptionalPeriod.{OptionalPeriod}
 
 -- the timeout of an index in seconds (Zigbee Table 3.52): 10, then 2 minutes that double with each index up to 14; none above

@@ -3,12 +3,16 @@ ghost use mathlib.Core.Path.{_≡_};
 ghost use Prim.Native.Nat.{_+_, _<_};
 ghost use lib.ListN.{length, getD, set};
 ghost use Rattle.lists.specs.Lists.{firstIndex, changeAt};
-ghost use Rattle.lists.specs.Steps.{removeAt};
+ghost use Rattle.lists.specs.Private.{removeAt};
 ghost use Rattle.supervision.specs.Timeouts.{timeoutSeconds, negotiatedTimeoutMs, refreshed};
 ghost use Rattle.supervision.specs.Keepalive.{keepaliveIntervalMs, offered, keepaliveMethod, negotiatedPollIntervalMs};
 ghost use Rattle.supervision.specs.Failures.{pairsOf, failuresOf, blankPair, ofAddress, oneMore, countedOnce, withRoom, recorded, pairRemoved, transmitFailed};
+
+pub mod parent_timer;
+
+use crate::parent_timer::ParentTimer;
+use nib::MAX_NEIGBOUR_TABLE;
 use nib::ShortAddress;
-use parent_timer::ParentTimer;
 
 // A period of time, in the unit that its function names, or none.
 pub enum OptionalPeriod {
@@ -120,7 +124,7 @@ pub struct TransmitFailure {
 
 // The pairs of address and count: the first `count` are in use, the oldest first.
 pub struct TransmitFailures {
-    pub pairs: [TransmitFailure; 16],
+    pub pairs: [TransmitFailure; MAX_NEIGBOUR_TABLE as usize],
     pub count: u8,
 }
 
@@ -141,7 +145,11 @@ fn in_use(failures: TransmitFailures) -> u8
     ensures { λ r. ⌜ r ≡ length (pairsOf failures) ⌝ }
 {
     let count = failures.count;
-    if count <= 16 { count } else { 16 }
+    if count <= MAX_NEIGBOUR_TABLE {
+        count
+    } else {
+        MAX_NEIGBOUR_TABLE
+    }
 }
 
 // The place of the first pair of an address, or how many are in use where there is none.
@@ -174,7 +182,7 @@ fn push(failures: TransmitFailures, p: TransmitFailure) -> TransmitFailures
     out
 }
 
-// The pairs without the one at a place; all of them where none is there, as at 16. Unused slots are blank.
+// The pairs without the one at a place; all of them where none is there. Unused slots are blank.
 fn without(failures: TransmitFailures, place: u8) -> TransmitFailures
     ensures { λ r. ⌜ r ≡ failuresOf (removeAt place (pairsOf failures)) ⌝ }
 {
@@ -183,7 +191,7 @@ fn without(failures: TransmitFailures, place: u8) -> TransmitFailures
         address: ShortAddress(0),
         count: 0,
     };
-    let pairs = [none; 16];
+    let pairs = [none; MAX_NEIGBOUR_TABLE as usize];
     let mut out = TransmitFailures { pairs, count: 0 };
     let mut i: u8 = 0;
     while i < used {
@@ -197,10 +205,19 @@ fn without(failures: TransmitFailures, place: u8) -> TransmitFailures
     out
 }
 
+// The pairs in use, with blank slots behind them. Nothing stands at the place behind the last pair, so none is removed.
+fn blank_unused(failures: TransmitFailures) -> TransmitFailures
+    ensures { λ r. ⌜ r ≡ failuresOf (pairsOf failures) ⌝ }
+{
+    let used = in_use(failures);
+    without(failures, used)
+}
+
+// One failure more; a count of 255 stays.
 fn one_more(n: u8) -> u8
     ensures { λ r. ⌜ r ≡ oneMore n ⌝ }
 {
-    if n == 255 { 255 } else { n + 1 }
+    if n == 255 { n } else { n + 1 }
 }
 
 // The pair at a place counts one failure more.
@@ -212,7 +229,7 @@ fn count_at(failures: TransmitFailures, place: u8) -> Recorded
     let mut p = failures.pairs[at];
     let total = one_more(p.count);
     p.count = total;
-    let mut out = without(failures, 16);
+    let mut out = blank_unused(failures);
     out.pairs[at] = p;
     Recorded {
         failures: out,
@@ -225,8 +242,8 @@ fn with_room(failures: TransmitFailures) -> TransmitFailures
     ensures { λ r. ⌜ r ≡ failuresOf (withRoom (pairsOf failures)) ⌝ }
 {
     let used = in_use(failures);
-    if used < 16 {
-        return without(failures, 16);
+    if used < MAX_NEIGBOUR_TABLE {
+        return blank_unused(failures);
     }
     without(failures, 0)
 }

@@ -40,10 +40,10 @@ use Rattle.management.specs.declared.StatusIndicationSlot.{StatusIndicationSlot
 use Rattle.management.specs.declared.StatusIndicationSlot.the-variants.{NoStatusIndication, HasStatusIndication}
 use Rattle.management.specs.declared.TimeoutResponseSlot.{TimeoutResponseSlot}
 use Rattle.management.specs.declared.TimeoutResponseSlot.the-variants.{NoTimeoutResponse, HasTimeoutResponse}
-use Rattle.frame.specs.declared.CommandHeader.{CommandHeader}
-use Rattle.frame.specs.declared.DataHeader.{DataHeader}
-use Rattle.frame.specs.declared.SentFrame.{SentFrame}
-use Rattle.frame.specs.declared.SentFrame.the-variants.{DataFrame, RejoinRequest, TimeoutRequest, Leave}
+use Rattle.management.specs.declared.frame.CommandHeader.{CommandHeader}
+use Rattle.management.specs.declared.frame.DataHeader.{DataHeader}
+use Rattle.management.specs.declared.frame.SentFrame.{SentFrame}
+use Rattle.management.specs.declared.frame.SentFrame.the-variants.{DataFrame, RejoinRequest, TimeoutRequest, Leave}
 use Rattle.supervision.specs.declared.TransmitFailure.{TransmitFailure}
 use Rattle.nlme.specs.declared.Nlme.{Nlme}
 use Rattle.operation.specs.declared.AssociateRequest.{AssociateRequest}
@@ -185,7 +185,7 @@ unfoldable pub transmitLine : PanId → ShortAddress → SentFrame → Line
 transmitLine pan address (DataFrame h) = dataLine pan address h
 transmitLine pan address (RejoinRequest h c) = commandLine kind.sentRequest pan address word.rejoinRequest h (c .0 ∷ [])
 transmitLine pan address (TimeoutRequest h i) = commandLine kind.sentRequest pan address word.timeoutRequest h (i ∷ [])
-transmitLine pan address (Leave h rejoin children) = commandLine kind.sentLeave pan address word.leave h (flag rejoin ∷ flag children ∷ [])
+transmitLine pan address (Leave h o) = commandLine kind.sentLeave pan address word.leave h (flag (o .rejoin) ∷ flag (o .«remove_children») ∷ [])
 
 abbrev pub pollLine : PanId → ShortAddress → Line
 pollLine pan address = lineBy kind.poll false (word.poll ∷ pan .0 ∷ address .0 ∷ [])

@@ -53,11 +53,9 @@ ghost use Rattle.trace.specs.Lines.{
 };
 ghost use Rattle.trace.specs.Trace.{networksOf, toldLines, nlmeLines, stateLines, saidLines, someText, pageText, textOf, isBad, turnOf, numberAfter, printed, after};
 use candidates::CandidateList;
+use discovery::MAX_NETWORK_DESCRIPTORS;
 use discovery::NetworkDescriptor;
 use discovery::NlmeNetworkDiscoveryConfirm;
-use frame::CommandHeader;
-use frame::DataHeader;
-use frame::SentFrame;
 use management::KeepaliveAnswer;
 use management::LeaveIndicationSlot;
 use management::LeavingDevice;
@@ -72,7 +70,11 @@ use management::SendAnswer;
 use management::Signals;
 use management::StatusIndicationSlot;
 use management::TimeoutResponseSlot;
+use management::frame::CommandHeader;
+use management::frame::DataHeader;
+use management::frame::SentFrame;
 use nib::DeviceType;
+use nib::MAX_NEIGBOUR_TABLE;
 use nib::NeighborTable;
 use nib::Nib;
 use nib::NwkNeighbor;
@@ -605,15 +607,15 @@ fn transmit_line(pan_id: PanId, address: ShortAddress, frame: SentFrame) -> Line
                 0,
             );
         }
-        SentFrame::Leave(h, rejoin, children) => {
+        SentFrame::Leave(h, options) => {
             return command_line(
                 kind::SENT_LEAVE,
                 pan_id,
                 address,
                 word::LEAVE,
                 h,
-                flag(rejoin),
-                flag(children),
+                flag(options.rejoin),
+                flag(options.remove_children),
             );
         }
     }
@@ -790,7 +792,11 @@ fn in_use(list: CandidateList) -> u8
     ensures { λ r. ⌜ r ≡ length (itemsOf list) ⌝ }
 {
     let count = list.count;
-    if count <= 16 { count } else { 16 }
+    if count <= MAX_NEIGBOUR_TABLE {
+        count
+    } else {
+        MAX_NEIGBOUR_TABLE
+    }
 }
 
 // The candidates' indexes, as many fields as there are.
@@ -838,7 +844,11 @@ fn network_count(networks: NlmeNetworkDiscoveryConfirm) -> u8
     ensures { λ r. ⌜ (r ≡ length (networksOf networks)) × (r ≤ 27) ⌝ }
 {
     let count = networks.count;
-    if count <= 27 { count } else { 27 }
+    if count <= MAX_NETWORK_DESCRIPTORS {
+        count
+    } else {
+        MAX_NETWORK_DESCRIPTORS
+    }
 }
 
 // The line of network i.
@@ -889,7 +899,11 @@ fn failure_count(failures: TransmitFailures) -> u8
     ensures { λ r. ⌜ (r ≡ length (pairsOf failures)) × (r ≤ 16) ⌝ }
 {
     let count = failures.count;
-    if count <= 16 { count } else { 16 }
+    if count <= MAX_NEIGBOUR_TABLE {
+        count
+    } else {
+        MAX_NEIGBOUR_TABLE
+    }
 }
 
 // The line of pair i.

@@ -8,7 +8,7 @@ use borrow.Author.Tests.{eq-eqb, ne-eqb}
 use types.Run.{OneOf, miss}
 use denote.Enum.Declared.{tagOf}
 use Rattle.lists.proofs.Conditions.{pick-true, pick-false}
-use Rattle.mlme.specs.declared.PanDescriptorList.{PanDescriptorList}
+use Rattle.discovery.specs.declared.mlme.PanDescriptorList.{PanDescriptorList}
 use Rattle.node.specs.Calls.{scanned}
 use Rattle.node.specs.Calls as node
 use Rattle.node.specs.declared.State.{State}
@@ -20,8 +20,8 @@ use Rattle.trace_calls.specs.declared.Kind.the-variants.{NoLine, NodeLin
 use Rattle.trace_calls.proofs.Kind as kind
 use Rattle.trace_calls.specs.declared.ScanSoFar.{ScanSoFar}
 use Rattle.trace_calls.specs.declared.Session.{Session}
-use Rattle.trace_calls.specs.TraceCalls.{unheard, setUp, awaiting, pairs, nothing, bad, told, heard, scanAfter, kindOf, fits, fitsAt, made, taken}
-use Rattle.trace_calls.specs.Steps.{stateAfter, heardOf, answer, called, byKind}
+use Rattle.trace_calls.specs.TraceCalls.{unheard, setUp, awaiting, pairs, nothing, bad, told, confirmTold, scanAfter, kindOf, fits, fitsAt, made, taken}
+use Rattle.trace_calls.specs.Private.{stateAfter, scanSoFar, answer, called, byKind}
 
 -- the tags of the lines that are left over
 abbrev calls : List ℕ
@@ -90,31 +90,31 @@ state-other (Choose x y z) st h = refl
 state-other PrintState st h = refl
 state-other (Page x) st h = refl
 
-pub heard-other : (c : Call) (l : PanDescriptorList) (n : ℕ) → OneOf not-scan (tagOf the-type c) → record { missing = 0; outcome = record { failed = true; list = unheard 0 } } ≡ heardOf l n c
-unfolding heardOf
-heard-other Bad l n h = refl
-heard-other (Node x) l n h = refl
-heard-other (Entry x) l n h = refl
-heard-other (Failure x) l n h = refl
-heard-other (Discovery x) l n h = refl
-heard-other (Join x) l n h = refl
-heard-other (Send x y) l n h = refl
-heard-other Poll l n h = refl
-heard-other Receive l n h = refl
-heard-other Negotiate l n h = refl
-heard-other Keepalive l n h = refl
-heard-other (Scan x) l n h = absurd (miss not-scan 11 tt h)
-heard-other (Beacon x) l n h = absurd (miss not-scan 12 tt h)
-heard-other ScanFailed l n h = refl
-heard-other (Association x) l n h = refl
-heard-other (Transmission x) l n h = refl
-heard-other (Reception x) l n h = refl
-heard-other (Tick x) l n h = refl
-heard-other TakeLeave l n h = refl
-heard-other TakeStatus l n h = refl
-heard-other (Choose x y z) l n h = refl
-heard-other PrintState l n h = refl
-heard-other (Page x) l n h = refl
+pub scan-other : (c : Call) (l : PanDescriptorList) (n : ℕ) → OneOf not-scan (tagOf the-type c) → record { missing = 0; outcome = record { failed = true; list = unheard 0 } } ≡ scanSoFar l n c
+unfolding scanSoFar
+scan-other Bad l n h = refl
+scan-other (Node x) l n h = refl
+scan-other (Entry x) l n h = refl
+scan-other (Failure x) l n h = refl
+scan-other (Discovery x) l n h = refl
+scan-other (Join x) l n h = refl
+scan-other (Send x y) l n h = refl
+scan-other Poll l n h = refl
+scan-other Receive l n h = refl
+scan-other Negotiate l n h = refl
+scan-other Keepalive l n h = refl
+scan-other (Scan x) l n h = absurd (miss not-scan 11 tt h)
+scan-other (Beacon x) l n h = absurd (miss not-scan 12 tt h)
+scan-other ScanFailed l n h = refl
+scan-other (Association x) l n h = refl
+scan-other (Transmission x) l n h = refl
+scan-other (Reception x) l n h = refl
+scan-other (Tick x) l n h = refl
+scan-other TakeLeave l n h = refl
+scan-other TakeStatus l n h = refl
+scan-other (Choose x y z) l n h = refl
+scan-other PrintState l n h = refl
+scan-other (Page x) l n h = refl
 
 pub answer-other : (c : Call) (st : State) → OneOf unasked (tagOf the-type c) → node.answer st node.takeStatus ≡ answer c st
 unfolding answer
@@ -183,7 +183,7 @@ kind-left CallLine c s h = absurd (miss setting 6 tt h)
 
 -- a line that may come does what its kind does
 pub by-kind : (c : Call) (s : Session) → fits c s ≡ true → byKind (kindOf c) c s ≡ made c s
-unfolding fitsAt made stateAfter heardOf answer called
+unfolding fitsAt made stateAfter scanSoFar answer called
 by-kind Bad s h = absurd (go (eqb (s .missing) 0) h)
   where
     go : (b : Bool) → cond b false false ≡ true → ⊥
@@ -224,7 +224,7 @@ taken-line c s e f z =
     ap (λ (x : Kind). byKind x c s) e ∙ (by-kind c s h ∙ pick-true (fits c s) _ _ h)
 
 -- a scan with its last beacon, and one that goes on
-pub scan-over : (s : Session) {x y : ScanSoFar} → x ≡ y → x .missing ≡ 0 → heard (scanned (x .outcome) (s .state)) (s .scan) ≡ scanAfter (y .missing) (y .outcome) s
+pub scan-over : (s : Session) {x y : ScanSoFar} → x ≡ y → x .missing ≡ 0 → confirmTold (scanned (x .outcome) (s .state)) (s .scan) ≡ scanAfter (y .missing) (y .outcome) s
 unfolding scanAfter
 scan-over s {x} {y} e z = pick-true (eqb (x .missing) 0) _ _ (eq-eqb _ _ z) ∙ ap (λ (h : ScanSoFar). scanAfter (h .missing) (h .outcome) s) e
 

@@ -1,3 +1,3 @@
 -- The definitions of `trace_calls`.
 pub mod TraceCalls
-pub mod Steps
+pub mod Private

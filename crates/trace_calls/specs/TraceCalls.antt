@@ -5,9 +5,9 @@ use mathlib.Core.List.{[]}
 use lib.Dec.{eqb, ltb}
 use lib.ListN.{set, replicate}
 use Rattle.nib.specs.Neighbors.{tableOf, pushed}
-use Rattle.mlme.specs.declared.Address.the-variants.{Short}
-use Rattle.mlme.specs.declared.PanDescriptor.{PanDescriptor}
-use Rattle.mlme.specs.declared.PanDescriptorList.{PanDescriptorList}
+use Rattle.discovery.specs.declared.mlme.Address.the-variants.{Short}
+use Rattle.discovery.specs.declared.mlme.PanDescriptor.{PanDescriptor}
+use Rattle.discovery.specs.declared.mlme.PanDescriptorList.{PanDescriptorList}
 use Rattle.discovery.specs.Discovery.{confirmOf}
 use Rattle.discovery.specs.declared.NlmeNetworkDiscoveryConfirm.{NlmeNetworkDiscoveryConfirm}
 use Rattle.candidates.specs.Candidates.{listOf}
@@ -74,7 +74,7 @@ idle =
       «extended_pan_id» = record { 0 = 0 };
       «security_enabled» = false;
       scan = record { first = 0; past = 0; duration = 0 };
-      scanned = false;
+      «scan_requested» = false;
       channel = 0;
       «polls_left» = 0;
     }
@@ -172,12 +172,12 @@ abbrev pub withList : CandidateList → Turn → Turn
 withList l t = record { session = t .session; said = t .said; networks = t .networks; list = l }
 
 -- what the outcome of a scan answers
-abbrev pub heard : ScanAnswer → PanDescriptorList → Turn
-heard a scan = withNetworks (a .confirm) (told (a .answer) scan)
+abbrev pub confirmTold : ScanAnswer → PanDescriptorList → Turn
+confirmTold a scan = withNetworks (a .confirm) (told (a .answer) scan)
 
 -- "count n; then n `b` lines": the outcome reaches the node with the last of them, at once where there are none. n of them are still to come
 unfoldable pub scanAfter : ℕ → ScanOutcome → Session → Turn
-scanAfter n o s = cond (eqb n 0) (heard (scanned o (s .state)) (s .scan)) (nothing (awaiting n (o .list) s))
+scanAfter n o s = cond (eqb n 0) (confirmTold (scanned o (s .state)) (s .scan)) (nothing (awaiting n (o .list) s))
 
 -- of a scan that did not fail
 abbrev pub hearing : PanDescriptorList → ScanOutcome

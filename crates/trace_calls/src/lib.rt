@@ -6,24 +6,27 @@ ghost use Rattle.nib.specs.Neighbors.{pushed};
 ghost use Rattle.discovery.specs.Discovery.{confirmOf};
 ghost use Rattle.node.specs.Looks.{withTable};
 ghost use Rattle.trace_calls.specs.TraceCalls.{noNode, ownPart, idle, begun, withPair, withPairs, unheard, withBeacon, before, setUp, saying, nothing, told, withNetworks, scanAfter, chosen, kindOf, hasRoom, hasNode, isBeacon, mayCome, fitsAt, taken};
-ghost use Rattle.trace_calls.specs.Steps.{stateAfter, heardOf, answer, called};
+ghost use Rattle.trace_calls.specs.Private.{stateAfter, scanSoFar, answer, called};
 use candidates::CandidateList;
+use candidates::tries::Candidates;
 use discovery::NlmeNetworkDiscoveryConfirm;
+use discovery::mlme::Address;
+use discovery::mlme::MAX_PAN_DESCRIPTOR_SIZE;
+use discovery::mlme::PanDescriptor;
+use discovery::mlme::PanDescriptorList;
+use discovery::mlme::StackProfile;
+use discovery::mlme::SuperframeSpecification;
+use discovery::mlme::ZigbeeBeacon;
 use management::LeaveIndicationSlot;
 use management::RejoinResponseSlot;
 use management::ScanRange;
 use management::Signals;
 use management::StatusIndicationSlot;
 use management::TimeoutResponseSlot;
-use mlme::Address;
-use mlme::PanDescriptor;
-use mlme::PanDescriptorList;
-use mlme::StackProfile;
-use mlme::SuperframeSpecification;
-use mlme::ZigbeeBeacon;
 use nib::CapabilityInformation;
 use nib::ExtendedPanId;
 use nib::IeeeAddress;
+use nib::MAX_NEIGBOUR_TABLE;
 use nib::NeighborTable;
 use nib::Nib;
 use nib::NwkNeighbor;
@@ -38,12 +41,11 @@ use operation::Note;
 use operation::Operation;
 use operation::Phase;
 use operation::Step;
-use parent_timer::ParentTimer;
 use supervision::TransmitFailure;
 use supervision::TransmitFailures;
+use supervision::parent_timer::ParentTimer;
 use trace_input::Call;
 use trace_input::NodeFields;
-use tries::Candidates;
 
 // Which lines may come next where no beacon is due: a `node` line alone; further lines of the state, or calls; calls.
 pub enum Stage {
@@ -114,7 +116,7 @@ fn own_part(node: NodeFields) -> Nlme
         address: ShortAddress(0),
         count: 0,
     };
-    let pairs = [none; 16];
+    let pairs = [none; MAX_NEIGBOUR_TABLE as usize];
     Nlme {
         nib,
         nwk_seq: node.nwk_seq,
@@ -144,7 +146,7 @@ fn idle() -> Operation
             past: 0,
             duration: 0,
         },
-        scanned: false,
+        scan_requested: false,
         channel: 0,
         polls_left: 0,
     }
@@ -159,7 +161,7 @@ fn begun(node: NodeFields) -> State
     let control = Control { nlme, operation };
     let table = NeighborTable::new();
     let list = CandidateList {
-        indexes: [0; 16],
+        indexes: [0; MAX_NEIGBOUR_TABLE as usize],
         count: 0,
     };
     let candidates = Candidates { list, taken: 0 };
@@ -176,7 +178,7 @@ fn with_pair(failures: TransmitFailures, p: TransmitFailure) -> TransmitFailures
 {
     let count = failures.count;
     let mut out = failures;
-    if 16 <= count {
+    if MAX_NEIGBOUR_TABLE <= count {
         return out;
     }
     let at = count as usize;
@@ -239,7 +241,7 @@ fn unheard(count: usize) -> PanDescriptorList
             update_id: 0,
         },
     };
-    let descriptors = [none; 27];
+    let descriptors = [none; MAX_PAN_DESCRIPTOR_SIZE];
     PanDescriptorList { descriptors, count }
 }
 
@@ -247,11 +249,11 @@ fn unheard(count: usize) -> PanDescriptorList
 fn place(count: usize, missing: u32) -> usize
     ensures { λ r. ⌜ r ≡ count - missing ⌝ }
 {
-    let left = missing as usize;
-    if count < left {
+    let to_come = missing as usize;
+    if count < to_come {
         return 0;
     }
-    count - left
+    count - to_come
 }
 
 // The next beacon is heard; the first 27 are kept.
@@ -260,19 +262,11 @@ fn with_beacon(list: PanDescriptorList, missing: u32, d: PanDescriptor) -> PanDe
 {
     let at = place(list.count, missing);
     let mut out = list;
-    if 27 <= at {
+    if MAX_PAN_DESCRIPTOR_SIZE <= at {
         return out;
     }
     out.descriptors[at] = d;
     out
-}
-
-// The confirm of a discovery that found nothing.
-fn no_networks() -> NlmeNetworkDiscoveryConfirm
-    ensures { λ r. ⌜ r ≡ confirmOf [] ⌝ }
-{
-    let none = unheard(0);
-    discovery::network_descriptors(none)
 }
 
 // One beacon less to come.
@@ -291,8 +285,8 @@ struct ScanSoFar {
     outcome: ScanOutcome,
 }
 
-fn heard(list: PanDescriptorList, missing: u32, call: Call) -> ScanSoFar
-    ensures { λ r. ⌜ r ≡ heardOf list missing call ⌝ }
+fn scan_so_far(list: PanDescriptorList, missing: u32, call: Call) -> ScanSoFar
+    ensures { λ r. ⌜ r ≡ scanSoFar list missing call ⌝ }
 {
     match call {
         Call::Scan(n) => return ScanSoFar {
@@ -367,9 +361,9 @@ fn turn_saying(
 ) -> Turn
     ensures { λ r. ⌜ r ≡ saying said (record { state = state; stage = stage; missing = missing; scan = scan }) ⌝ }
 {
-    let networks = no_networks();
+    let networks = discovery::no_networks();
     let list = CandidateList {
-        indexes: [0; 16],
+        indexes: [0; MAX_NEIGBOUR_TABLE as usize],
         count: 0,
     };
     Turn {
@@ -393,7 +387,7 @@ fn told(scan: PanDescriptorList, answer: Answer, networks: NlmeNetworkDiscoveryC
     let note = answer.note;
     let step = answer.step;
     let list = CandidateList {
-        indexes: [0; 16],
+        indexes: [0; MAX_NEIGBOUR_TABLE as usize],
         count: 0,
     };
     Turn {
@@ -425,9 +419,9 @@ impl Session {
 
     // `scan`, `b` and `scanfail`: the outcome reaches the node with the last beacon.
     fn scan_line(self, call: Call) -> Turn
-        ensures { λ r. ⌜ r ≡ scanAfter (heardOf (self .scan) (self .missing) call .missing) (heardOf (self .scan) (self .missing) call .outcome) self ⌝ }
+        ensures { λ r. ⌜ r ≡ scanAfter (scanSoFar (self .scan) (self .missing) call .missing) (scanSoFar (self .scan) (self .missing) call .outcome) self ⌝ }
     {
-        let so_far = heard(self.scan, self.missing, call);
+        let so_far = scan_so_far(self.scan, self.missing, call);
         if so_far.missing == 0 {
             let scanned = self.state.scan_over(so_far.outcome);
             return told(self.scan, scanned.answer, scanned.confirm);
@@ -447,7 +441,7 @@ impl Session {
         let choice = self.state.select_candidates(network, router, permit);
         let state = self.state;
         let scan = self.scan;
-        let networks = no_networks();
+        let networks = discovery::no_networks();
         let list = choice.list;
         Turn {
             session: Session {
@@ -482,7 +476,11 @@ impl Session {
                 self.scan,
                 Said::Paged(length),
             ),
-            _ => return told(self.scan, answer(self.state, call), no_networks()),
+            _ => return told(
+                self.scan,
+                answer(self.state, call),
+                discovery::no_networks(),
+            ),
         }
     }
 }
@@ -521,7 +519,7 @@ fn has_room(stage: Stage, count: u8) -> bool
 {
     match stage {
         Stage::NoNode => return false,
-        Stage::SettingUp => return count < 16,
+        Stage::SettingUp => return count < MAX_NEIGBOUR_TABLE,
         Stage::Running => return false,
     }
 }

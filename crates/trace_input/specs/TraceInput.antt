@@ -15,10 +15,10 @@ use Rattle.nib.specs.declared.OptionalIeee.{OptionalIeee}
 use Rattle.nib.specs.declared.OptionalIeee.the-variants.{NoIeee, Ieee}
 use Rattle.nib.specs.declared.PanId.{PanId}
 use Rattle.nib.specs.declared.ShortAddress.{ShortAddress}
-use Rattle.mlme.specs.declared.Address.{Address}
-use Rattle.mlme.specs.declared.Address.the-variants.{Short, Extended}
-use Rattle.mlme.specs.declared.PanDescriptor.{PanDescriptor}
-use Rattle.mlme.specs.declared.StackProfile.{StackProfile}
+use Rattle.discovery.specs.declared.mlme.Address.{Address}
+use Rattle.discovery.specs.declared.mlme.Address.the-variants.{Short, Extended}
+use Rattle.discovery.specs.declared.mlme.PanDescriptor.{PanDescriptor}
+use Rattle.discovery.specs.declared.mlme.StackProfile.{StackProfile}
 use Rattle.supervision.specs.declared.TransmitFailure.{TransmitFailure}
 use Rattle.management.specs.declared.NlmeJoinRequest.{NlmeJoinRequest}
 use Rattle.management.specs.declared.RejoinNetwork.{RejoinNetwork}
@@ -26,11 +26,11 @@ use Rattle.management.specs.declared.RejoinNetwork.the-variants.{Association, O
 use Rattle.management.specs.declared.RejoinResponse.{RejoinResponse}
 use Rattle.management.specs.declared.EndDeviceTimeoutResponse.{EndDeviceTimeoutResponse}
 use Rattle.management.specs.declared.ScanRange.{ScanRange}
-use Rattle.frame.specs.declared.LeaveOptions.{LeaveOptions}
-use Rattle.frame.specs.declared.ReceivedFrame.the-variants.{Undecodable, Data, RejoinResponseCommand, TimeoutResponseCommand, LeaveCommand, OtherCommand, OtherFrame}
-use Rattle.frame.specs.declared.Source.{Source}
-use Rattle.join.specs.declared.AssociationOutcome.the-variants.{Associated, AssociationFailed}
-use Rattle.join.specs.declared.AssociationResponse.{AssociationResponse}
+use Rattle.management.specs.declared.frame.LeaveOptions.{LeaveOptions}
+use Rattle.management.specs.declared.frame.ReceivedFrame.the-variants.{Undecodable, Data, RejoinResponseCommand, TimeoutResponseCommand, LeaveCommand, OtherCommand, OtherFrame}
+use Rattle.management.specs.declared.frame.Source.{Source}
+use Rattle.join.specs.declared.association.AssociationOutcome.the-variants.{Associated, AssociationFailed}
+use Rattle.join.specs.declared.association.AssociationResponse.{AssociationResponse}
 use Rattle.node.specs.declared.ReceptionOutcome.the-variants.{NoData, ReceptionFailed, Received}
 use Rattle.trace_lines.specs.declared.Line.{Line}
 use Rattle.trace_input.specs.declared.Call.{Call}

@@ -16,7 +16,7 @@ use Rattle.text.specs.Text.{orZero, isNumber}
 use Rattle.text.specs.declared.OptionalNumber.{OptionalNumber}
 use Rattle.text.specs.declared.OptionalNumber.the-variants.{NoNumber, Number}
 use Rattle.trace_lines.specs.TraceLines.{numberOf, isDash, allFit, zeros, lineAs, noLine}
-use Rattle.trace_lines.specs.Steps.{readAs}
+use Rattle.trace_lines.specs.Private.{readAs}
 use Rattle.trace_lines.proofs.Zips.{zip-long, zip-at}
 
 -- a loop over what is read in each field: what the one at i says

@@ -14,7 +14,7 @@ use Rattle.text.specs.Text.{sameText}
 use Rattle.text.proofs.Numbers.{both}
 use Rattle.trace_lines.specs.declared.Line.{Line}
 use Rattle.trace_lines.specs.TraceLines.{inputKinds, wordOf, lettersOf, fits, lineAs, noLine, readBy}
-use Rattle.trace_lines.specs.Steps.{isTable, readAs, readKind}
+use Rattle.trace_lines.specs.Private.{isTable, readAs, readKind}
 use Rattle.trace_lines.proofs.Zips.{every-at}
 
 -- a kind by its word

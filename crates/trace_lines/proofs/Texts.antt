@@ -14,7 +14,7 @@ use Rattle.text.specs.Text.{bytes, decimalText, hexText}
 use Rattle.text.proofs.Numbers.{decimal-long, hex-long}
 use Rattle.trace_lines.specs.declared.Line.{Line}
 use Rattle.trace_lines.specs.TraceLines.{aWord, fourDigits, sixteenDigits, orDash, words, outputKinds, fieldText, joined, textsOf, lineText}
-use Rattle.trace_lines.specs.Steps.{tabBefore}
+use Rattle.trace_lines.specs.Private.{tabBefore}
 use Rattle.trace_lines.proofs.Zips.{zip-long, zip-at, every-at}
 
 -- what was written is the same text in other words

@@ -1,3 +1,3 @@
 -- The definitions of `trace_lines`.
 pub mod TraceLines
-pub mod Steps
+pub mod Private

@@ -7,7 +7,7 @@ ghost use lib.ListN.{length, getD};
 ghost use lib.Seq.{sets};
 ghost use Rattle.text.specs.Text.{bytes, parts, fields, sameText, hexOf, hexText};
 ghost use Rattle.trace_lines.specs.TraceLines.{greatest, lettersOf, numberIf, numberOf, isDash, noLine, readBy, lineOf, fieldText, joined, textsOf, lineText, words};
-ghost use Rattle.trace_lines.specs.Steps.{isTable, readAs, readKind, tabBefore};
+ghost use Rattle.trace_lines.specs.Private.{isTable, readAs, readKind, tabBefore};
 use text::OptionalNumber;
 
 // The kinds of lines that are read: a word, a space, and a letter for each further field.

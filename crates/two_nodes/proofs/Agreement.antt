@@ -11,16 +11,16 @@ use Rattle.lists.proofs.Conditions.{split, both-cases}
 use Rattle.nib.specs.declared.CapabilityInformation.{CapabilityInformation}
 use Rattle.nib.specs.declared.NwkNeighbor.{NwkNeighbor}
 use Rattle.nib.specs.declared.Neighbor.{Neighbor}
-use Rattle.neighbor_table.specs.NeighborTable.{parentOf}
+use Rattle.nib.specs.NeighborTable.{parentOf}
 use Rattle.nib.specs.Identifiers.{bit}
-use Rattle.mlme.specs.Mlme.{descriptorsOf}
-use Rattle.mlme.specs.declared.PanDescriptor.{PanDescriptor}
+use Rattle.discovery.specs.Mlme.{descriptorsOf}
+use Rattle.discovery.specs.declared.mlme.PanDescriptor.{PanDescriptor}
 use Rattle.discovery.specs.Discovery.{neighborsOf, shortAddressed}
 use Rattle.management.specs.declared.NlmeJoinStatus.{NlmeJoinStatus}
 use Rattle.management.specs.declared.NlmeJoinRequest.{NlmeJoinRequest}
 use Rattle.management.specs.declared.RejoinNetwork.{RejoinNetwork}
 use Rattle.management.specs.declared.PollAnswer.{PollAnswer}
-use Rattle.frame.specs.declared.ReceivedFrame.{ReceivedFrame}
+use Rattle.management.specs.declared.frame.ReceivedFrame.{ReceivedFrame}
 use Rattle.nlme.specs.Nlme.{parentAddress, nlmeTicked}
 use Rattle.operation.specs.Operation.{withNlme, isIdle, asking, ending, For, scanFor, associationFor, transmissionFor, receptionFor}
 use Rattle.operation.specs.declared.Purpose.{Purpose}
@@ -34,11 +34,11 @@ use Rattle.operation.specs.declared.Move.{Move}
 use Rattle.operation.specs.declared.Decision.{Decision}
 use Rattle.exchange.specs.Exchange.{tickTold, leaveTaken, statusTaken}
 use Rattle.join.specs.Join.{joinStarted, associated}
-use Rattle.join.specs.declared.AssociationOutcome.{AssociationOutcome}
-use Rattle.rejoin.specs.Rejoin.{rejoinStarted, tryNext, tryGoesOn, requestSent}
+use Rattle.join.specs.declared.association.AssociationOutcome.{AssociationOutcome}
+use Rattle.join.specs.Rejoin.{rejoinStarted, tryNext, tryGoesOn, requestSent}
 use Rattle.node.specs.Looks.{withControl, entries, parent, tried, next, moved, potentialCleared, finish, deciding}
 use Rattle.node.specs.Refusals.{refuse, bad, start, outcome}
-use Rattle.node.specs.Calls.{withChosen, associate, joinBy, scanFailed, heard, rejoinAmong, scanHeard, scanOver, associationOver, continuing, goOn, taughtOn, receptionOver, transmissionOver, Call, discovery, join, send, poll, receive, timeout, scan, association, transmission, reception, elapsed, takeLeave, takeStatus, made, answer}
+use Rattle.node.specs.Calls.{withChosen, associate, joinBy, scanFailed, withScan, rejoinAmong, scanHeard, scanOver, associationOver, continuing, goOn, taughtOn, receptionOver, transmissionOver, Call, discovery, join, send, poll, receive, timeout, scan, association, transmission, reception, elapsed, takeLeave, takeStatus, made, answer}
 use Rattle.node.specs.declared.State.{State}
 use Rattle.node.specs.declared.Answer.{Answer}
 use Rattle.node.specs.declared.ScanOutcome.{ScanOutcome}
@@ -231,12 +231,12 @@ module _ (n : ℕ) (some : n ≡ 0 → ⊥) {s t : State} (a : Alike n s t) wher
   joinBy-good RejoinNetwork.ChannelChange r w = ending-good n a _
 
 -- a rejoin's send or poll is over: before the scan the candidates do not matter
-module _ (n : ℕ) (some : n ≡ 0 → ⊥) {s t : State} (a : Alike n s t) (c : s .control .operation .scanned ≡ true → Tries n s t) where
-  try-good : (decide : Neighbor → Neighbor → Control → Decision) → ((x : Neighbor) → OnD n (s .control .operation .scanned) (decide (parent s) x (s .control)))
-      → (s .control .operation .scanned ≡ false → (x y : Neighbor) → decide (parent s) x (s .control) ≡ decide (parent s) y (s .control))
+module _ (n : ℕ) (some : n ≡ 0 → ⊥) {s t : State} (a : Alike n s t) (c : s .control .operation .«scan_requested» ≡ true → Tries n s t) where
+  try-good : (decide : Neighbor → Neighbor → Control → Decision) → ((x : Neighbor) → OnD n (s .control .operation .«scan_requested») (decide (parent s) x (s .control)))
+      → (s .control .operation .«scan_requested» ≡ false → (x y : Neighbor) → decide (parent s) x (s .control) ≡ decide (parent s) y (s .control))
       → Good n (deciding s (decide (parent s) (next s) (s .control))) (deciding t (decide (parent t) (next t) (t .control)))
   try-good decide on unseen =
-      split (s .control .operation .scanned)
+      split (s .control .operation .«scan_requested»)
       (λ h. finish-good n some a (c h) (on (next s)) (λ i. decide (alike-parent n a i) (alike-next n a (c h) i) (a .control-same i)))
       (λ h. calm-good n a (on (next s)) h (unseen h (next s) (next t) ∙ (λ i. decide (alike-parent n a i) (next t) (a .control-same i))))
 
@@ -281,7 +281,7 @@ module _ (n : ℕ) (f : ReceivedFrame) {s t : State} (a : Alike n s t) where
       }
 
 -- the outcome of a poll
-module _ (n : ℕ) (some : n ≡ 0 → ⊥) {s t : State} (a : Alike n s t) (c : s .control .operation .scanned ≡ true → Tries n s t) where
+module _ (n : ℕ) (some : n ≡ 0 → ⊥) {s t : State} (a : Alike n s t) (c : s .control .operation .«scan_requested» ≡ true → Tries n s t) where
   reception-good : (o : ReceptionOutcome) (u : Purpose) → OnPurpose n u (s .control .operation .«extended_pan_id» .0) → Plain o → Good n (receptionOver o u s) (receptionOver o u t)
   unfolding receptionOver
   reception-good ReceptionOutcome.NoData u e w = goOn-good n some a c u _ e
@@ -299,8 +299,8 @@ module _ (n : ℕ) {s t : State} (a : Alike n s t) where
   scanFailed-good ScanFor.Discovery = ending-good n a _
   scanFailed-good ScanFor.Rejoin = ending-good n a _
 
-  heard-alike : (ds es : List PanDescriptor) → shortAddressed ds ≤ 16 → shortAddressed es ≤ 16 → select (beaconOf n) ds ≡ select (beaconOf n) es → Alike n (heard ds s) (heard es t)
-  unfolding heard
+  heard-alike : (ds es : List PanDescriptor) → shortAddressed ds ≤ 16 → shortAddressed es ≤ 16 → select (beaconOf n) ds ≡ select (beaconOf n) es → Alike n (withScan ds s) (withScan es t)
+  unfolding withScan
   heard-alike ds es w v e =
       record {
         control-same = a .control-same;
@@ -322,7 +322,7 @@ module _ (n : ℕ) {s t : State} (a : Alike n s t) where
 module _ (n : ℕ) (some : n ≡ 0 → ⊥) {s t : State} (r : Near n s t) (u : ScanFor) (e : OnScan n u (s .control .operation .«extended_pan_id» .0)) where
   -- what is done with a list
   abbrev listed : ScanOutcome → State → Answer
-  listed o x = cond (ltb 27 (o .list .count)) (refuse 3 x) (cond (ltb 16 (shortAddressed (descriptorsOf (o .list)))) (refuse 4 x) (scanHeard u (heard (descriptorsOf (o .list)) x)))
+  listed o x = cond (ltb 27 (o .list .count)) (refuse 3 x) (cond (ltb 16 (shortAddressed (descriptorsOf (o .list)))) (refuse 4 x) (scanHeard u (withScan (descriptorsOf (o .list)) x)))
 
   -- a failure on both sides, or a list on both
   both : (x y : ScanOutcome) → x .failed ≡ y .failed → (x .failed ≡ false → Good n (listed x s) (listed y t)) → Good n (scanOver x u s) (scanOver y u t)
@@ -330,7 +330,7 @@ module _ (n : ℕ) (some : n ≡ 0 → ⊥) {s t : State} (r : Near n s t) (u : 
   both x y q f = both-cases (Good n) (x .failed) (y .failed) q (λ _. scanFailed-good n (r .alike) u) f
 
   scanOver-good : (x y : ScanOutcome) → AlikeScan n x y → Good n (scanOver x u s) (scanOver y u t)
-  unfolding heard
+  unfolding withScan
   scanOver-good x y (failures f g) = both x y (f ∙ sym g) (λ k. never (x .failed) k f)
   scanOver-good x y (above-27 f g a b) = both x y (f ∙ sym g) (λ _. rw (lt-ltb 27 (x .list .count) a, lt-ltb 27 (y .list .count) b) (refuse-good n 3 r))
   scanOver-good x y (above-16 f g a b c d) =
@@ -376,7 +376,7 @@ module _ (n : ℕ) (some : n ≡ 0 → ⊥) {s t : State} (r : Near n s t) where
   id = s .control .operation .«extended_pan_id» .0
 
   abbrev afterScan : Bool
-  afterScan = s .control .operation .scanned
+  afterScan = s .control .operation .«scan_requested»
 
   scan-good : (x y : ScanOutcome) → AlikeScan n x y → (p : Phase) → OnPhase n p id → Good n (outcome (scanFor p) (scanOver x) s) (outcome (scanFor p) (scanOver y) t)
   unfolding outcome

@@ -24,9 +24,9 @@ use Rattle.operation.specs.declared.Move.{Move}
 use Rattle.operation.specs.declared.Decision.{Decision}
 use Rattle.operation.specs.declared.Polling.{Polling}
 use Rattle.join.specs.Join.{failing, resetNegotiation, associating, joinStarted, failedStatus, joinedBy, candidateFailed, succeeded, associated}
-use Rattle.join.specs.declared.AssociationResponse.{AssociationResponse}
-use Rattle.join.specs.declared.AssociationOutcome.{AssociationOutcome}
-use Rattle.rejoin.specs.Rejoin.{invalid, resolved, trying, scanOrEnd, tryRemembered, begun, rejoinStarted, adopting, tryCandidate, tryNext, tryFailed, rejoined, responded, answeredBy, requestSent}
+use Rattle.join.specs.declared.association.AssociationResponse.{AssociationResponse}
+use Rattle.join.specs.declared.association.AssociationOutcome.{AssociationOutcome}
+use Rattle.join.specs.Rejoin.{invalid, resolved, trying, scanOrEnd, tryRemembered, begun, rejoinStarted, adopting, tryCandidate, tryNext, tryFailed, rejoined, responded, answeredBy, requestSent}
 use Rattle.two_nodes.proofs.States.{live, joins}
 
 pub never : {A : Type 0} (b : Bool) → b ≡ false → b ≡ true → A
@@ -91,7 +91,7 @@ module _ (n : ℕ) where
 
   -- the rejoin
   module _ (c : Control) (e : c .operation .«extended_pan_id» .0 ≡ n) where
-    trying-on : {b : Bool} (m : Move) → joins m ≡ false → (b ≡ false → m ≡ Move.Stay) → (b ≡ false → c .operation .scanned ≡ false) → (note : Note) (p : NwkNeighbor)
+    trying-on : {b : Bool} (m : Move) → joins m ≡ false → (b ≡ false → m ≡ Move.Stay) → (b ≡ false → c .operation .«scan_requested» ≡ false) → (note : Note) (p : NwkNeighbor)
         → OnD n b (trying m note p c)
     unfolding trying
     trying-on m h stay q note p =
@@ -103,7 +103,7 @@ module _ (n : ℕ) where
         either (leb (c .operation .scan .past) (c .operation .scan .first)) (failing-on st c)
         (record { kept = e; ends = λ h. refl; calm = λ _. record { stays = refl; uncleared = refl; dead = refl } })
 
-    tryRemembered-on : c .operation .scanned ≡ false → (p : Neighbor) → OnD n false (tryRemembered p c)
+    tryRemembered-on : c .operation .«scan_requested» ≡ false → (p : Neighbor) → OnD n false (tryRemembered p c)
     unfolding tryRemembered
     tryRemembered-on q Neighbor.Absent = scanOrEnd-on _
     tryRemembered-on q (Neighbor.Entry p) = trying-on Move.Stay refl (λ _. refl) (λ _. q) _ p
@@ -122,25 +122,25 @@ module _ (n : ℕ) where
     tryNext-on st Neighbor.Absent = failing-on st c
     tryNext-on st (Neighbor.Entry x) = tryCandidate-on c e x
 
-    tryFailed-on : (st : NlmeJoinStatus) (x : Neighbor) → OnD n (c .operation .scanned) (tryFailed st x c)
+    tryFailed-on : (st : NlmeJoinStatus) (x : Neighbor) → OnD n (c .operation .«scan_requested») (tryFailed st x c)
     unfolding tryFailed
-    tryFailed-on st x = by-cases (OnD n (c .operation .scanned)) (c .operation .scanned) (after-scan (c .operation .scanned) (tryNext-on st x)) (scanOrEnd-on c e st)
+    tryFailed-on st x = by-cases (OnD n (c .operation .«scan_requested»)) (c .operation .«scan_requested») (after-scan (c .operation .«scan_requested») (tryNext-on st x)) (scanOrEnd-on c e st)
 
   module _ (c : Control) (e : c .operation .«extended_pan_id» .0 ≡ n) where
-    polls-on : (p x : Neighbor) → OnD n (c .operation .scanned) (pollOn Purpose.RejoinResponse p (tryFailed NlmeJoinStatus.MacError x) c)
+    polls-on : (p x : Neighbor) → OnD n (c .operation .«scan_requested») (pollOn Purpose.RejoinResponse p (tryFailed NlmeJoinStatus.MacError x) c)
     unfolding polling pollOn
     polls-on Neighbor.Absent x = tryFailed-on (withPollsLeft 0 c) e _ x
     polls-on (Neighbor.Entry p) x =
-        by-cases (λ (y : Polling). OnD n (c .operation .scanned) (polledOr Purpose.RejoinResponse (tryFailed NlmeJoinStatus.MacError x) (y .parent) (y .control)))
+        by-cases (λ (y : Polling). OnD n (c .operation .«scan_requested») (polledOr Purpose.RejoinResponse (tryFailed NlmeJoinStatus.MacError x) (y .parent) (y .control)))
         (eqb (c .operation .«polls_left») 0) (λ _. tryFailed-on c e _ x)
         (record { kept = e; ends = λ h. absurd (false≢true h); calm = λ f. record { stays = refl; uncleared = refl; dead = f } })
 
-    pub answeredBy-on : (a : RejoinResponseSlot) (p x : Neighbor) → OnD n (c .operation .scanned) (answeredBy a p x c)
+    pub answeredBy-on : (a : RejoinResponseSlot) (p x : Neighbor) → OnD n (c .operation .«scan_requested») (answeredBy a p x c)
     unfolding answeredBy responded
     answeredBy-on (RejoinResponseSlot.HasRejoinResponse r) p x = either (eqb (r .status) 0) (rejoined-on _ e r) (tryFailed-on _ e _ x)
     answeredBy-on RejoinResponseSlot.NoRejoinResponse p x = polls-on p x
 
-    pub requestSent-on : (ok : Bool) (p x : Neighbor) → OnD n (c .operation .scanned) (requestSent ok p x c)
+    pub requestSent-on : (ok : Bool) (p x : Neighbor) → OnD n (c .operation .«scan_requested») (requestSent ok p x c)
     unfolding requestSent
     requestSent-on true p x = answeredBy-on (c .nlme .signals .«rejoin_response») p x
     requestSent-on false p x = tryFailed-on c e _ x
@@ -176,11 +176,11 @@ module _ (n : ℕ) where
 
 -- before the scan the next candidate is not looked at
 module _ (x y : Neighbor) where
-  failed-unseen : (st : NlmeJoinStatus) (c : Control) → c .operation .scanned ≡ false → tryFailed st x c ≡ tryFailed st y c
+  failed-unseen : (st : NlmeJoinStatus) (c : Control) → c .operation .«scan_requested» ≡ false → tryFailed st x c ≡ tryFailed st y c
   unfolding tryFailed
-  failed-unseen st c f = sym (pick-false (c .operation .scanned) _ _ f) ∙ pick-false (c .operation .scanned) _ _ f
+  failed-unseen st c f = sym (pick-false (c .operation .«scan_requested») _ _ f) ∙ pick-false (c .operation .«scan_requested») _ _ f
 
-  module _ (c : Control) (f : c .operation .scanned ≡ false) where
+  module _ (c : Control) (f : c .operation .«scan_requested» ≡ false) where
     polls-unseen : (p : Neighbor) → pollOn Purpose.RejoinResponse p (tryFailed NlmeJoinStatus.MacError x) c ≡ pollOn Purpose.RejoinResponse p (tryFailed NlmeJoinStatus.MacError y) c
     unfolding polling pollOn
     polls-unseen Neighbor.Absent = failed-unseen _ (withPollsLeft 0 c) f

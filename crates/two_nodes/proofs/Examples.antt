@@ -8,8 +8,8 @@ use lib.ListN.{length, replicate}
 use Rattle.nib.specs.Neighbors.{tableOf}
 use Rattle.nib.specs.declared.OptionalIeee.{OptionalIeee}
 use Rattle.nib.specs.declared.OptionalIeee.the-variants.{NoIeee, Ieee}
-use Rattle.mlme.specs.declared.Address.the-variants.{Short}
-use Rattle.mlme.specs.declared.PanDescriptor.{PanDescriptor}
+use Rattle.discovery.specs.declared.mlme.Address.the-variants.{Short}
+use Rattle.discovery.specs.declared.mlme.PanDescriptor.{PanDescriptor}
 use Rattle.management.specs.declared.RejoinNetwork.{RejoinNetwork}
 use Rattle.management.specs.declared.RejoinNetwork.the-variants.{Association, NwkRejoin}
 use Rattle.management.specs.declared.ScanRange.{ScanRange}
@@ -18,12 +18,12 @@ use Rattle.management.specs.declared.TimeoutResponseSlot.the-variants.{NoTimeou
 use Rattle.management.specs.declared.LeaveIndicationSlot.the-variants.{NoLeaveIndication}
 use Rattle.management.specs.declared.StatusIndicationSlot.the-variants.{NoStatusIndication}
 use Rattle.management.specs.declared.NlmeJoinStatus.the-variants.{Success, NotPermitted, PanAtCapacity, MacError}
-use Rattle.frame.specs.declared.Source.{Source}
-use Rattle.frame.specs.declared.ReceivedFrame.the-variants.{Data, RejoinResponseCommand, LeaveCommand}
-use Rattle.frame.specs.declared.CommandHeader.{CommandHeader}
-use Rattle.frame.specs.declared.ReceivedFrame.{ReceivedFrame}
-use Rattle.frame.specs.declared.SentFrame.{SentFrame}
-use Rattle.frame.specs.declared.SentFrame.the-variants.{RejoinRequest, Leave}
+use Rattle.management.specs.declared.frame.Source.{Source}
+use Rattle.management.specs.declared.frame.ReceivedFrame.the-variants.{Data, RejoinResponseCommand, LeaveCommand}
+use Rattle.management.specs.declared.frame.CommandHeader.{CommandHeader}
+use Rattle.management.specs.declared.frame.ReceivedFrame.{ReceivedFrame}
+use Rattle.management.specs.declared.frame.SentFrame.{SentFrame}
+use Rattle.management.specs.declared.frame.SentFrame.the-variants.{RejoinRequest, Leave}
 use Rattle.operation.specs.Operation.{isIdle, polling, pollOn}
 use Rattle.operation.specs.declared.ScanFor.{ScanFor}
 use Rattle.operation.specs.declared.Phase.{Phase}
@@ -32,15 +32,15 @@ use Rattle.operation.specs.declared.Step.{Step}
 use Rattle.operation.specs.declared.Step.the-variants.{Refused, Ask, Discovered, Joined, StatusTaken}
 use Rattle.node.specs.Looks.{entries, moved, potentialCleared, finish}
 use Rattle.node.specs.Refusals.{refuse, bad, outcome}
-use Rattle.node.specs.Calls.{withChosen, associate, joinBy, heard, scanHeard, scanOver, continuing, changed, after, receptionOver, transmissionOver, Call, discovery, join, scan, transmission, reception, takeStatus, answer}
-use Rattle.tries.specs.Tries.{parentIn, triedIndex, skipped, nextIndex, nextIn, pastTable, taking, adoptedNext}
-use Rattle.neighbor_table.specs.NeighborTable.{found, ieeeOf, parentOf, onEntries, learnt, marked, adopted, retained}
+use Rattle.node.specs.Calls.{withChosen, associate, joinBy, withScan, scanHeard, scanOver, continuing, tableChanged, after, receptionOver, transmissionOver, Call, discovery, join, scan, transmission, reception, takeStatus, answer}
+use Rattle.candidates.specs.Tries.{parentIn, triedIndex, skipped, nextIndex, nextIn, pastTable, taking, adoptedNext}
+use Rattle.nib.specs.NeighborTable.{found, ieeeOf, parentOf, onEntries, learnt, marked, adopted, retained}
 use Rattle.candidates.specs.Candidates.{listOf, eligible, depthAt, candidates}
 use Rattle.candidates.specs.UpdateIds.{newer, newest}
 use Rattle.discovery.specs.Discovery.{potentialParent, entryOf, neighborBy, present, neighborsOf}
 use Rattle.join.specs.Join.{failure, associating, joinStarted, failedStatus}
-use Rattle.rejoin.specs.Rejoin.{invalid, trying, scanOrEnd, tryRemembered, rejoinStarted, tryCandidate, tryNext, tryFailed, rejoined, responded, answeredBy, requestSent}
-use Rattle.received.specs.Received.{taughtBy, taught, rejoinResponded, neighborLeft, acceptsLeave, announcement, leaveRequested, leaveHandled, handled}
+use Rattle.join.specs.Rejoin.{invalid, trying, scanOrEnd, tryRemembered, rejoinStarted, tryCandidate, tryNext, tryFailed, rejoined, responded, answeredBy, requestSent}
+use Rattle.nlme.specs.Received.{taughtBy, taught, rejoinResponded, neighborLeft, acceptsLeave, announcement, leaveRequested, leaveHandled, handled}
 use Rattle.nlme.specs.Nlme.{negotiationReset, commandHeader}
 use Rattle.nib.specs.Identifiers.{linkCost}
 use Rattle.node.specs.declared.State.{State}
@@ -90,7 +90,7 @@ node address network awaited =
           «extended_pan_id» = record { 0 = network };
           «security_enabled» = false;
           scan = range;
-          scanned = true;
+          «scan_requested» = true;
           channel = 0;
           «polls_left» = 0;
         };
@@ -194,7 +194,7 @@ abbrev rejoins : ℕ → ℕ → OptionalIeee → Step
 rejoins sequence address ieee = rejoinsAs 0x80 sequence address ieee
 
 abbrev announces : ℕ → OptionalIeee → Step
-announces sequence ieee = transmits 0xffff (Leave (header 0xffff ieee sequence true) true false)
+announces sequence ieee = transmits 0xffff (Leave (header 0xffff ieee sequence true) (record { request = false; rejoin = true; «remove_children» = false }))
 
 abbrev polls : ℕ → Step
 polls address = Ask (Poll (record { 0 = 17 }) (record { 0 = address }))
@@ -319,7 +319,7 @@ isLeave (ReceptionOutcome.Received (ReceivedFrame.OtherCommand s)) = false
 isLeave (ReceptionOutcome.Received ReceivedFrame.OtherFrame) = false
 
 computed : Computed
-unfolding answer bad refuse outcome moved potentialCleared finish withChosen associate joinBy heard scanHeard scanOver continuing changed after receptionOver transmissionOver parentIn triedIndex skipped nextIndex nextIn pastTable taking adoptedNext found ieeeOf parentOf onEntries learnt marked adopted retained eligible depthAt candidates newer newest potentialParent entryOf neighborBy present neighborsOf associating joinStarted failedStatus invalid trying scanOrEnd tryRemembered rejoinStarted tryCandidate tryNext tryFailed rejoined responded answeredBy polling pollOn requestSent taughtBy taught rejoinResponded neighborLeft acceptsLeave announcement leaveRequested leaveHandled handled negotiationReset commandHeader linkCost shown flatMap
+unfolding answer bad refuse outcome moved potentialCleared finish withChosen associate joinBy withScan scanHeard scanOver continuing tableChanged after receptionOver transmissionOver parentIn triedIndex skipped nextIndex nextIn pastTable taking adoptedNext found ieeeOf parentOf onEntries learnt marked adopted retained eligible depthAt candidates newer newest potentialParent entryOf neighborBy present neighborsOf associating joinStarted failedStatus invalid trying scanOrEnd tryRemembered rejoinStarted tryCandidate tryNext tryFailed rejoined responded answeredBy polling pollOn requestSent taughtBy taught rejoinResponded neighborLeft acceptsLeave announcement leaveRequested leaveHandled handled negotiationReset commandHeader linkCost shown flatMap
 computed =
     record {
       joins-past = refl;

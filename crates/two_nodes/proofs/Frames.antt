@@ -2,12 +2,12 @@
 use mathlib.Core.Path.{_≡_, refl}
 use mathlib.Core.Bool.{false}
 use Rattle.management.specs.declared.PollAnswer.{PollAnswer}
-use Rattle.frame.specs.declared.ReceivedFrame.{ReceivedFrame}
+use Rattle.management.specs.declared.frame.ReceivedFrame.{ReceivedFrame}
 use Rattle.nlme.specs.declared.Nlme.{Nlme}
-use Rattle.received.specs.Received.{rejoinResponded, timeoutResponded, handled}
+use Rattle.nlme.specs.Received.{rejoinResponded, timeoutResponded, handled}
 use Rattle.operation.specs.declared.Purpose.{Purpose}
 use Rattle.operation.specs.declared.Phase.{Phase}
-use Rattle.node.specs.Calls.{goOn, withNode, changed, after, processed}
+use Rattle.node.specs.Calls.{goOn, withNode, tableChanged, after, processed}
 use Rattle.node.specs.declared.State.{State}
 use Rattle.node.specs.declared.ReceptionOutcome.{ReceptionOutcome}
 use Rattle.two_nodes.specs.Statement.{NoLeave}
@@ -56,7 +56,7 @@ says (ReceivedFrame.OtherCommand f) = PollAnswer.PollNothing
 says ReceivedFrame.OtherFrame = PollAnswer.PollNothing
 
 pub processed-is : (u : Purpose) (f : ReceivedFrame) (s : State) → PlainFrame f → processed u f s ≡ goOn false u (says f) (withNode (nlmeAfter f (s .control .nlme)) s)
-unfolding handled after changed
+unfolding handled after tableChanged
 processed-is u ReceivedFrame.Undecodable s w = refl
 processed-is u (ReceivedFrame.Data f) s w = refl
 processed-is u (ReceivedFrame.RejoinResponseCommand f r) s w = refl

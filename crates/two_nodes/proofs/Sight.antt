@@ -19,18 +19,18 @@ use Rattle.nib.specs.Neighbors.{PARENT, NONE, entryAt, blank}
 use Rattle.nib.proofs.Tables.{entry-anywhere}
 use Rattle.nib.specs.declared.IeeeAddress.{IeeeAddress}
 use Rattle.nib.specs.declared.NwkNeighbor.{NwkNeighbor}
-use Rattle.neighbor_table.specs.NeighborTable.{hasAddress, isParent, parentOf, seenIn, withIeee, withRelationship, cleared, learnt, marked, adopted, allCleared}
-use Rattle.neighbor_table.proofs.Looks.{parent-cons}
-use Rattle.neighbor_table.proofs.Addressed.{look, ieeeIn, seen, entry-seen, parent-seen, Mild, mild-relationship, mild-cleared, seen-change, seen-map, taughtTo, seen-learnt, NoAddress, seen-fresh}
+use Rattle.nib.specs.NeighborTable.{hasAddress, isParent, parentOf, seenIn, withIeee, withRelationship, cleared, learnt, marked, adopted, allCleared}
+use Rattle.nib.proofs.Looks.{parent-cons}
+use Rattle.nib.proofs.Addressed.{look, ieeeIn, seen, entry-seen, parent-seen, Mild, mild-relationship, mild-cleared, seen-change, seen-map, taughtTo, seen-learnt, NoAddress, seen-fresh}
 use Rattle.candidates.specs.UpdateIds.{ofNetwork, newest}
 use Rattle.candidates.specs.Candidates.{depthAt, ordered, candidates}
 use Rattle.candidates.specs.declared.Newest.{Newest}
 use Rattle.candidates.proofs.Laws.{member}
 use Rattle.candidates.proofs.Network.{map-ordered, newest-own, fit, eligible-own}
-use Rattle.tries.specs.Tries.{parentIn}
-use Rattle.mlme.specs.declared.Address.{Address}
-use Rattle.mlme.specs.declared.Address.the-variants.{Short, Extended}
-use Rattle.mlme.specs.declared.PanDescriptor.{PanDescriptor}
+use Rattle.candidates.specs.Tries.{parentIn}
+use Rattle.discovery.specs.declared.mlme.Address.{Address}
+use Rattle.discovery.specs.declared.mlme.Address.the-variants.{Short, Extended}
+use Rattle.discovery.specs.declared.mlme.PanDescriptor.{PanDescriptor}
 use Rattle.discovery.specs.Discovery.{entryOf, neighborBy, present, neighborsOf}
 use Rattle.discovery.proofs.Scans.{network-neighbors}
 use Rattle.two_nodes.specs.Statement.{beaconOf}

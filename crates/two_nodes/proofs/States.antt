@@ -25,18 +25,18 @@ use Rattle.nib.specs.declared.OptionalIeee.the-variants.{NoIeee, Ieee}
 use Rattle.nib.specs.declared.NeighborTable.{NeighborTable}
 use Rattle.nib.specs.declared.NwkNeighbor.{NwkNeighbor}
 use Rattle.nib.specs.declared.Neighbor.{Neighbor}
-use Rattle.neighbor_table.specs.NeighborTable.{withoutPotential, onEntries, marked, potentialClearedAt, parentOf}
-use Rattle.neighbor_table.proofs.Entries.{on-same, entries-on, learnt-long, marked-long, adopted-long, cleared-long, potential-long}
-use Rattle.frame.specs.declared.Source.{Source}
-use Rattle.frame.specs.declared.ReceivedFrame.{ReceivedFrame}
-use Rattle.frame.specs.declared.ReceivedFrame.the-variants.{Undecodable, Data, RejoinResponseCommand, TimeoutResponseCommand, LeaveCommand, OtherCommand, OtherFrame}
-use Rattle.mlme.specs.declared.PanDescriptor.{PanDescriptor}
+use Rattle.nib.specs.NeighborTable.{withoutPotential, onEntries, marked, potentialClearedAt, parentOf}
+use Rattle.nib.proofs.Entries.{on-same, entries-on, learnt-long, marked-long, adopted-long, cleared-long, potential-long}
+use Rattle.management.specs.declared.frame.Source.{Source}
+use Rattle.management.specs.declared.frame.ReceivedFrame.{ReceivedFrame}
+use Rattle.management.specs.declared.frame.ReceivedFrame.the-variants.{Undecodable, Data, RejoinResponseCommand, TimeoutResponseCommand, LeaveCommand, OtherCommand, OtherFrame}
+use Rattle.discovery.specs.declared.mlme.PanDescriptor.{PanDescriptor}
 use Rattle.discovery.specs.Discovery.{neighborsOf, shortAddressed}
-use Rattle.neighbor_table.proofs.Addressed.{mild-potential, taughtTo}
+use Rattle.nib.proofs.Addressed.{mild-potential, taughtTo}
 use Rattle.candidates.specs.UpdateIds.{ofNetwork}
 use Rattle.candidates.specs.Candidates.{candidates, itemsOf, listOf}
 use Rattle.candidates.proofs.Laws.{few as few-candidates}
-use Rattle.tries.specs.Tries.{triedIndex, triedIn, skipped, nextIndex, nextIn, pastTable, taking, adoptedNext, joinedTried, potentialClearedTried}
+use Rattle.candidates.specs.Tries.{triedIndex, triedIn, skipped, nextIndex, nextIn, pastTable, taking, adoptedNext, joinedTried, potentialClearedTried}
 use Rattle.operation.specs.Operation.{associationFor}
 use Rattle.operation.specs.declared.Phase.{Phase}
 use Rattle.operation.specs.declared.Control.{Control}
@@ -44,8 +44,8 @@ use Rattle.operation.specs.declared.Move.{Move}
 use Rattle.operation.specs.declared.Move.the-variants.{Stay, TakeNext, AdoptNext, JoinTried}
 use Rattle.node.specs.Looks.{withTable, entries, parent, tried, next, takenNext, moved, potentialCleared}
 use Rattle.node.specs.Refusals.{pastIn, bad}
-use Rattle.node.specs.Calls.{withChosen, heard, taughtOn}
-use Rattle.received.specs.Received.{taughtBy, taught}
+use Rattle.node.specs.Calls.{withChosen, withScan, taughtOn}
+use Rattle.nlme.specs.Received.{taughtBy, taught}
 use Rattle.node.specs.declared.State.{State}
 use Rattle.two_nodes.specs.Statement.{beaconOf}
 use Rattle.two_nodes.proofs.Sight.{shows, marks, Placed, nowhere, placed-at, parent-shows, entry-shows, changed-shows, adoptedIn, adopted-shows, adopted-marks, joinedIn, joined-shows, joined-ranks, learnt-shows, learnt-marks, scan-shows, choiceIn, choice-ours, choice-shows}
@@ -62,14 +62,14 @@ sight n s =
 
 -- candidates are being tried, or may be: those of an association, and of a rejoin after its scan
 abbrev pub liveIn : Phase → Bool → Bool
-liveIn Phase.Idle scanned = false
-liveIn (Phase.Scan u) scanned = false
-liveIn Phase.Association scanned = true
-liveIn (Phase.Transmission u) scanned = scanned
-liveIn (Phase.Reception u) scanned = scanned
+liveIn Phase.Idle requested = false
+liveIn (Phase.Scan u) requested = false
+liveIn Phase.Association requested = true
+liveIn (Phase.Transmission u) requested = requested
+liveIn (Phase.Reception u) requested = requested
 
 abbrev pub live : Control → Bool
-live c = liveIn (c .operation .phase) (c .operation .scanned)
+live c = liveIn (c .operation .phase) (c .operation .«scan_requested»)
 
 -- the counts are in range
 pub record Tidy (s : State) : Type 0 where
@@ -351,15 +351,15 @@ module _ (permit : Bool) (n : ℕ) (some : n ≡ 0 → ⊥) (i : CapabilityInfor
 -- a scan makes the table
 
 module _ (ds : List PanDescriptor) (s : State) (within : shortAddressed ds ≤ 16) where
-  heard-entries : entries (heard ds s) ≡ neighborsOf ds
-  unfolding heard
+  heard-entries : entries (withScan ds s) ≡ neighborsOf ds
+  unfolding withScan
   heard-entries = entries-of (neighborsOf ds)
 
-  pub heard-tidy : s .candidates .list .count ≤ 16 → Tidy (heard ds s)
-  unfolding heard
+  pub heard-tidy : s .candidates .list .count ≤ 16 → Tidy (withScan ds s)
+  unfolding withScan
   heard-tidy h = record { small = within; few = h }
 
-  pub heard-list : (n : ℕ) → shows n (entries (heard ds s)) ≡ neighborsOf (select (beaconOf n) ds)
+  pub heard-list : (n : ℕ) → shows n (entries (withScan ds s)) ≡ neighborsOf (select (beaconOf n) ds)
   heard-list n = ap (shows n) heard-entries ∙ scan-shows n ds
 
 -- a frame teaches its sender's address
@@ -451,7 +451,7 @@ pub bad-is : (n : ℕ) (s : State) → Tidy s → (live (s .control) ≡ true �
 unfolding bad
 bad-is n s d o = rw (le-ltb 16 (s .table .count) (d .small), le-ltb 16 (s .candidates .list .count) (d .few), past (s .control .operation .phase) o)
   where
-    past : (p : Phase) → (liveIn p (s .control .operation .scanned) ≡ true → Ours n s) → pastIn (associationFor p) (s .table .count) (s .candidates) ≡ false
+    past : (p : Phase) → (liveIn p (s .control .operation .«scan_requested») ≡ true → Ours n s) → pastIn (associationFor p) (s .table .count) (s .candidates) ≡ false
     past Phase.Association h = tried-within-table n s (h refl)
     past Phase.Idle h = refl
     past (Phase.Scan u) h = refl

@@ -51,7 +51,7 @@ near-self n s i h =
     let d = tidy-of s h in
     record {
       alike = record { control-same = refl; list-same = refl; taken-same = refl; tidy-1 = d; tidy-2 = d };
-      tries = never (live (s .control)) (ap (λ (p : Phase). liveIn p (s .control .operation .scanned)) i);
+      tries = never (live (s .control)) (ap (λ (p : Phase). liveIn p (s .control .operation .«scan_requested»)) i);
       on = subst⁻¹ (λ (p : Phase). OnPhase n p (s .control .operation .«extended_pan_id» .0)) i tt;
     }
 

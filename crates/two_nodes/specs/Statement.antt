@@ -7,21 +7,21 @@ use mathlib.Core.List.{List, [], _∷_}
 use lib.Dec.{eqb}
 use Rattle.lists.specs.Lists.{select}
 use Rattle.nib.specs.declared.ShortAddress.{ShortAddress}
-use Rattle.mlme.specs.Mlme.{descriptorsOf}
-use Rattle.mlme.specs.declared.PanDescriptor.{PanDescriptor}
+use Rattle.discovery.specs.Mlme.{descriptorsOf}
+use Rattle.discovery.specs.declared.mlme.PanDescriptor.{PanDescriptor}
 use Rattle.discovery.specs.Discovery.{shortAddressed}
 use Rattle.management.specs.declared.NlmeJoinRequest.{NlmeJoinRequest}
 use Rattle.management.specs.declared.RejoinNetwork.{RejoinNetwork}
-use Rattle.frame.specs.declared.Source.{Source}
-use Rattle.frame.specs.declared.LeaveOptions.{LeaveOptions}
-use Rattle.frame.specs.declared.ReceivedFrame.{ReceivedFrame}
+use Rattle.management.specs.declared.frame.Source.{Source}
+use Rattle.management.specs.declared.frame.LeaveOptions.{LeaveOptions}
+use Rattle.management.specs.declared.frame.ReceivedFrame.{ReceivedFrame}
 use Rattle.nlme.specs.Nlme.{parentAddress}
 use Rattle.operation.specs.declared.Purpose.{Purpose}
 use Rattle.operation.specs.declared.Phase.{Phase}
 use Rattle.operation.specs.declared.Control.{Control}
 use Rattle.operation.specs.declared.Note.{Note}
 use Rattle.operation.specs.declared.Step.{Step}
-use Rattle.rejoin.specs.Rejoin.{resolved}
+use Rattle.join.specs.Rejoin.{resolved}
 use Rattle.node.specs.Looks.{parent}
 use Rattle.node.specs.Calls.{Call, discovery, join, send, poll, receive, timeout, scan, association, transmission, reception, elapsed, takeLeave, takeStatus, answer}
 use Rattle.node.specs.declared.State.{State}

@@ -17,7 +17,7 @@ use Rattle.nib.proofs.Tables.{entries-of}
 use Rattle.candidates.specs.Candidates.{listOf, itemsOf}
 use Rattle.candidates.specs.declared.CandidateList.{CandidateList}
 use Rattle.candidates.proofs.Listed.{items-of}
-use Rattle.yard_list.specs.Steps.{Named}
+use Rattle.yard_list.specs.Private.{Named}
 use Rattle.nib.specs.declared.NwkNeighbor.{NwkNeighbor}
 use Rattle.candidates.proofs.Laws.{few, below}
 use Rattle.text.specs.Text.{parts, fields, decimalText}

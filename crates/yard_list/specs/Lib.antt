@@ -1,3 +1,3 @@
 -- The definitions of `yard_list`.
 pub mod YardList
-pub mod Steps
+pub mod Private

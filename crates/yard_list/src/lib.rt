@@ -9,16 +9,20 @@ ghost use Rattle.lists.specs.Lists.{over};
 ghost use Rattle.nib.specs.Neighbors.{blank, entriesOf, tableOf};
 ghost use Rattle.candidates.specs.Candidates.{listOf, itemsOf};
 ghost use Rattle.text.specs.Text.{parts, fields, orZero, isNumber, decimalText, hexText};
-ghost use Rattle.yard_list.specs.Steps.{formsOf, Named};
+ghost use Rattle.yard_list.specs.Private.{formsOf, Named};
 ghost use Rattle.yard_list.specs.YardList.{fits, requestForms, entryForms, allFit, isGood, goodFrom, hexAt, byteAt, flagAt, entryOf, entriesIn, chosen, cell, rowOf, rowsFrom, listText, badText, yardText};
 use candidates::CandidateList;
 use nib::ExtendedPanId;
 use nib::IeeeAddress;
+use nib::MAX_NEIGBOUR_TABLE;
 use nib::NeighborTable;
 use nib::NwkNeighbor;
 use nib::PanId;
 use nib::ShortAddress;
 use text::OptionalNumber;
+
+// How many entries a list has at most: as many as a neighbour table.
+const MAX_ENTRIES: usize = MAX_NEIGBOUR_TABLE as usize;
 
 // What a field holds: a line's first word, a hexadecimal number of so many digits, or a decimal number of at most so much.
 enum Form {
@@ -147,7 +151,7 @@ fn is_good(line: &[u8], k: usize) -> bool
     if k == 0 {
         return is_line(line, Kind::Request);
     }
-    if 16 < k {
+    if MAX_ENTRIES < k {
         return false;
     }
     is_line(line, Kind::Entry)

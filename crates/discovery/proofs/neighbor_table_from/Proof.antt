@@ -8,12 +8,13 @@ use lib.ListN.{length, take, getD, length-take}
 use Rattle.lists.proofs.Maps.{take-used}
 use Rattle.nib.specs.Neighbors.{tableOf}
 use Rattle.nib.specs.declared.NeighborTable.{NeighborTable}
-use Rattle.mlme.specs.declared.PanDescriptor.{PanDescriptor}
+use Rattle.discovery.specs.declared.mlme.PanDescriptor.{PanDescriptor}
 use Rattle.discovery.specs.Discovery.{neighborOf, neighborsOf}
 use Rattle.discovery.proofs.Scans.{noDescriptor, neighbors-next, added, added-next}
 use Rattle.discovery.proofs.neighbor_table_from.Statement.{statement}
 use Rattle.discovery.proofs.neighbor_table_from.Tie as tie
 
+-- after i descriptors the table has the first 16 of the entries that they give
 abbrev Inv-loop : tie.InvT-loop
 Inv-loop list n table₀ i₀ table i = (i ≤ n) × (table ≡ tableOf (take 16 (neighborsOf (take i (list .descriptors)))))
 
@@ -72,6 +73,8 @@ add-i c = omega arith
 loop-less : tie.Need-loop-less Inv-loop μ-loop
 loop-less c = omega arith
 
+-- one descriptor more. What the code writes, by count, slot and old entry, is `added`; in a table of at most 16 entries that puts the new entry, if there is
+-- one and room for it, at the end (`added-next`); the entries of i + 1 descriptors are those of i and of the one at i (`neighbors-next`)
 loop-again : tie.Need-loop-again Inv-loop μ-loop
 loop-again c =
     let p = c .before in
@@ -89,6 +92,7 @@ loop-again c =
           ∙ rw (neighbors-next (l .descriptors) i noDescriptor h) (added-next (neighborsOf (take i (l .descriptors))) x)),
     )
 
+-- i is as many as are in use, and to take so many takes what the count does (`take-used`)
 returns : tie.Need-returns Inv-loop μ-loop
 returns c =
     let b = c .before in

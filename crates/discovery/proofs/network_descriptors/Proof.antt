@@ -13,6 +13,7 @@ use Rattle.discovery.proofs.Scans.{noDescriptor}
 use Rattle.discovery.proofs.network_descriptors.Statement.{statement}
 use Rattle.discovery.proofs.network_descriptors.Tie as tie
 
+-- after i descriptors what is told of them stands in the first i slots, and the other slots are blank
 abbrev Inv-loop : tie.InvT-loop
 Inv-loop list n slots₀ i₀ slots i =
     (i ≤ n) × (slots ≡ over (replicate 27 blankDescriptor) (map networkDescriptor (take i (list .descriptors))))
@@ -53,6 +54,7 @@ add-i c = omega arith
 loop-less : tie.Need-loop-less Inv-loop μ-loop
 loop-less c = omega arith
 
+-- one descriptor more: the store at i puts its image behind those of the first i (`map-next`)
 loop-again : tie.Need-loop-again Inv-loop μ-loop
 loop-again c =
     let b = c .before .before .before in
@@ -65,6 +67,7 @@ loop-again c =
           (map-next networkDescriptor (replicate 27 blankDescriptor) (l .descriptors) i noDescriptor h (omega arith)),
     )
 
+-- `e`: i is as many as are in use. `p`: to take so many takes what the count does (`take-used`). `q`: the confirm's count is the number of descriptors
 returns : tie.Need-returns Inv-loop μ-loop
 returns c =
     let b = c .before in

@@ -1,7 +1,7 @@
 -- `one_if_short` meets its contract. Assumes nothing.
 use mathlib.Core.Path.{sym, ap}
 use lib.ListN.{length}
-use Rattle.mlme.specs.declared.Address.{Address}
+use Rattle.discovery.specs.declared.mlme.Address.{Address}
 use Rattle.discovery.specs.Discovery.{neighborBy, present}
 use borrow.Author.Needs.{needs}
 use Rattle.discovery.proofs.one_if_short.Statement.{statement}

@@ -42,9 +42,9 @@ use denote.Triple.Spec.{Meets, tripleOf}
 use denote.Triple.Table.{entered, cited}
 use denote.Triple.Walked.{says, Stays, stay-ref, stay-none, walkOf, AllGo, goes-none, goes-ref, Walks, ends-at, walked, walk-meets}
 use denote.Exit.{yes}
-use Rattle.parent_timer.specs.declared.ParentTimer.{ParentTimer}
-use Rattle.parent_timer.proofs.ParentTimer as P
-use Rattle.parent_timer.proofs.ParentTimer.Laws as P′
+use Rattle.supervision.specs.declared.parent_timer.ParentTimer.{ParentTimer}
+use Rattle.supervision.proofs.parent_timer.ParentTimer as P
+use Rattle.supervision.proofs.parent_timer.ParentTimer.Laws as P′
 use Rattle.node.specs.declared.State.{State}
 use Rattle.node.proofs.State as S
 use Rattle.node.proofs.State.Laws as S′

@@ -22,11 +22,11 @@ turned-down-requires c κs = search needs
 returns : tie.Need-returns
 returns c = c .turned-down .ensures ∙ if-refused (c .before .before .before .before .before .args .timer) (c .before .before .before .before .before .args .elapsed-ms) (c .before .before .before .before .before .args .state) (c .before .before .before .tick-parent-timeout .result) (c .before .before .before .tick-parent-timeout .ensures ∙ ap (λ (x : State). answer x (elapsed (c .before .before .before .before .before .args .elapsed-ms))) (c .before .before .before .before .with-timer .ensures)) _ (c .before .enum-told .given .1)
 
-leaving-requires : tie.Need-leaving-requires
-leaving-requires c κs = search needs
+with-record-requires : tie.Need-with-record-requires
+with-record-requires c κs = search needs
 
 returns-2 : tie.Need-returns-2
-returns-2 c = c .leaving .ensures ∙ if-not-refused (c .before .before .before .before .args .timer) (c .before .before .before .before .args .elapsed-ms) (c .before .before .before .before .args .state) (c .before .before .tick-parent-timeout .result) (c .before .before .tick-parent-timeout .ensures ∙ ap (λ (x : State). answer x (elapsed (c .before .before .before .before .args .elapsed-ms))) (c .before .before .before .with-timer .ensures)) (c .before .match .keys2)
+returns-2 c = c .with-record .ensures ∙ if-not-refused (c .before .before .before .before .args .timer) (c .before .before .before .before .args .elapsed-ms) (c .before .before .before .before .args .state) (c .before .before .tick-parent-timeout .result) (c .before .before .tick-parent-timeout .ensures ∙ ap (λ (x : State). answer x (elapsed (c .before .before .before .before .args .elapsed-ms))) (c .before .before .before .with-timer .ensures)) (c .before .match .keys2)
 
 pub tick-with-spec : {M : Type 1} → statement M
 tick-with-spec =
@@ -37,5 +37,5 @@ tick-with-spec =
     enum-told
     turned-down-requires
     returns
-    leaving-requires
+    with-record-requires
     returns-2)

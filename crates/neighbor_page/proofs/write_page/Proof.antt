@@ -22,6 +22,7 @@ Inv-loop page₀ rows k₀ page k = (k ≤ 17) × (page ≡ over page₀ (flatMa
 abbrev μ-loop : tie.MeasureT-loop
 μ-loop page₀ rows k₀ page k = 17 - k
 
+-- the buffer is too short: all of it stays
 returns : tie.Need-returns Inv-loop μ-loop
 unfolding written
 returns c =
@@ -39,6 +40,7 @@ loop-holds c = (omega arith, refl)
 mul-at : tie.Need-mul-at Inv-loop μ-loop
 mul-at c = omega arith
 
+-- the buffer stays as long as it was (`page-size`), so it has the 816 bytes of a page, and a row from k * 48 on lies within it; the same below
 sub-write-row : tie.Need-sub-write-row Inv-loop μ-loop
 sub-write-row c = omega (arith, page-size (entriesOf (c .before .before .before .before .before .args .table)) (c .before .before .rows-of .result) (c .before .before .rows-of .ensures) (c .before .before .before .before .before .args .page .now) (c .before .loop .page) (c .before .loop .k) (c .before .loop .inv .0) (omega (arith, c .before .before .before .if1 .left)) (c .before .loop .inv .1))
 
@@ -67,6 +69,8 @@ add-k c = omega arith
 loop-less : tie.Need-loop-less Inv-loop μ-loop
 loop-less c = omega arith
 
+-- one row more. `t`: the k rows so far have 48 k bytes, so the next row, of 48 bytes (`r`), is written right behind them (`row-written`); the rows so far
+-- and it are the first k + 1 (`flatMap-next`)
 loop-again : tie.Need-loop-again Inv-loop μ-loop
 loop-again c =
     let l = c .before .before .before .before .before .before .loop in
@@ -91,6 +95,7 @@ same-length c =
     let l = c .before .loop in
     page-size (entriesOf (c .before .before .before .before .before .args .table)) (c .before .before .rows-of .result) (c .before .before .rows-of .ensures) (c .before .before .before .before .before .args .page .now) (l .page) (l .k) (l .inv .0) (omega (arith, c .before .before .before .if1 .left)) (l .inv .1)
 
+-- the buffer is long enough. `w`: there are 17 rows, so the rows so far are the page
 returns-2 : tie.Need-returns-2 Inv-loop μ-loop
 unfolding written page
 returns-2 c =

@@ -7,6 +7,8 @@ use lib.ListN.{length}
 use Rattle.nodetrace.proofs.feed.Statement.{statement}
 use Rattle.nodetrace.proofs.feed.Tie as tie
 
+-- `at` and `e`, where the next line begins and ends, lie within the piece, and the buffer for a line is as long as before. `feed` promises nothing of its
+-- own: what is shown is that no index is out of range and that the loop ends
 abbrev Inv-loop : tie.InvT-loop
 Inv-loop had piece line₀ run₀ have₀ at₀ e₀ line run have at e = (at ≤ e) × (e ≤ length piece) × (length line ≡ length line₀)
 
@@ -43,6 +45,7 @@ after-requires c κs = c .before .before .before .before .before .before .before
 line-end-requires-2 : tie.Need-line-end-requires-2 Inv-loop μ-loop
 line-end-requires-2 c κs = omega (arith, c .after .ensures, c .before .before .before .before .before .before .before .before .loop-test .taken)
 
+-- the next line end is at or behind the byte after this one (`after`, `line_end`), so `e` grows
 loop-less : tie.Need-loop-less Inv-loop μ-loop
 loop-less c = omega (arith, c .line-end2 .ensures .0, c .before .after .ensures, c .before .before .before .before .before .before .before .before .before .loop-test .taken)
 

@@ -1,12 +1,11 @@
 -- `count_at` meets its contract. Assumes nothing.
-use mathlib.Core.Path.{_≡_, sym, ap, _∙_}
+use mathlib.Core.Path.{_≡_, sym}
 use native.Mathlib.Omega.{arith}
 use borrow.Author.Needs.{needs}
 use lib.ListN.{length, getD, length-take}
 use lib.Seq.{getD-take}
 use Rattle.lists.proofs.Lists.{length-mapped}
-use Rattle.lists.proofs.Pairs.{remove-past}
-use Rattle.supervision.specs.Failures.{pairsOf, failuresOf, blankPair}
+use Rattle.supervision.specs.Failures.{pairsOf, blankPair}
 use Rattle.supervision.proofs.Failures.{count-of}
 use Rattle.supervision.proofs.count_at.Statement.{statement}
 use Rattle.supervision.proofs.count_at.Tie as tie
@@ -23,8 +22,8 @@ element-copy-out-p c =
 one-more-requires : tie.Need-one-more-requires
 one-more-requires c κs = search needs
 
-without-requires : tie.Need-without-requires
-without-requires c κs = search needs
+blank-unused-requires : tie.Need-blank-unused-requires
+blank-unused-requires c κs = search needs
 
 mul-p-2 : tie.Need-mul-p-2
 mul-p-2 c = search needs
@@ -40,12 +39,9 @@ returns c =
     let s = c .before .before .before in
     let f = s .args .t1 in
     let k = s .args .place in
-    let n : length (f .pairs) ≡ 16 = search (needs, length-mapped) in
-    let all : c .without .result ≡ failuresOf (pairsOf f) =
-    c .without .ensures ∙ ap failuresOf (remove-past 16 (pairsOf f) (omega (arith, length-take (f .count) (f .pairs)))) in
     let same : getD (f .pairs) k blankPair ≡ getD (pairsOf f) k blankPair =
     sym (getD-take (f .count) (f .pairs) k blankPair (omega (arith, s .pre, length-take (f .count) (f .pairs)))) in
-    rw (c .before .one-more .ensures, all, same) (count-of (pairsOf f) k (s .pre))
+    rw (c .before .one-more .ensures, c .blank-unused .ensures, same) (count-of (pairsOf f) k (s .pre))
 
 pub count-at-spec : {M : Type 1} → statement M
 count-at-spec =
@@ -54,7 +50,7 @@ count-at-spec =
     mul-p
     element-copy-out-p
     one-more-requires
-    without-requires
+    blank-unused-requires
     mul-p-2
     element-set-from-p
     returns)

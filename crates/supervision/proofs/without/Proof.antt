@@ -7,7 +7,7 @@ use native.Mathlib.Omega.{arith}
 use borrow.Author.Needs.{needs}
 use lib.ListN.{length, take, getD, length-take}
 use lib.Seq.{getD-take, take-all, length-take-le}
-use Rattle.lists.specs.Steps.{removeAt}
+use Rattle.lists.specs.Private.{removeAt}
 use Rattle.lists.proofs.Lists.{length-mapped, take-next}
 use Rattle.lists.proofs.Pairs.{remove-snoc, remove-last, remove-le}
 use Rattle.supervision.specs.Failures.{pairsOf, failuresOf, blankPair}
@@ -17,6 +17,7 @@ use Rattle.supervision.proofs.Failures.{pairPushed, push-of}
 use Rattle.supervision.proofs.without.Statement.{statement}
 use Rattle.supervision.proofs.without.Tie as tie
 
+-- after i pairs the result has those of them that don't stand at the place
 abbrev Inv-loop : tie.InvT-loop
 Inv-loop place failures used out₀ i₀ out i = (i ≤ used) × (out ≡ failuresOf (removeAt place (take i (pairsOf failures))))
 
@@ -41,6 +42,7 @@ element-copy-out-p c =
     let n : length (f .pairs) ≡ 16 = search (needs, length-mapped) in
     omega (arith, c .before .before .before .in-use .ensures, length-take (f .count) (f .pairs))
 
+-- there is room: the result has at most i pairs (`remove-le`), and i is below the number in use, which is at most 16
 push-requires : tie.Need-push-requires Inv-loop μ-loop
 push-requires c κs =
     let b = c .before .before .before in
@@ -56,6 +58,8 @@ add-i c = omega arith
 loop-less : tie.Need-loop-less Inv-loop μ-loop
 loop-less c = omega arith
 
+-- one pair more. `e`: the first i + 1 pairs are the first i and the one at i. Where i is not the place, that pair stays behind the others (`remove-snoc`) and
+-- the code pushes it (`push-of`); where i is the place, it is the one that goes (`remove-last`) and the result stays
 loop-again : tie.Need-loop-again Inv-loop μ-loop
 loop-again c =
     let b = c .before .before in

@@ -11,6 +11,7 @@ use Rattle.text.proofs.Numbers.{number-on, number-stops, number-large}
 use Rattle.text.proofs.number.Statement.{statement}
 use Rattle.text.proofs.number.Tie as tie
 
+-- after i bytes: v is at most the limit, and the number is what the bytes from i on make after digits of value v
 abbrev Inv-loop : tie.InvT-loop
 Inv-loop f base limit v₀ i₀ v i = (i ≤ length f) × (v ≤ limit) × (numberFrom base limit 0 f ≡ numberFrom base limit v (drop i f))
 
@@ -35,6 +36,7 @@ returns c =
 div-if2 : tie.Need-div-if2 Inv-loop μ-loop
 div-if2 c = omega arith
 
+-- limit / base < v says that limit < v * base (`div-lt-iff-lt-mul`): with any digit the value is too large, and more digits only make it grow (`number-large`)
 returns-2 : tie.Need-returns-2 Inv-loop μ-loop
 returns-2 c =
     let b = c .before .before .before .before .before in
@@ -44,6 +46,7 @@ returns-2 c =
     let l : a .limit < v * a .base = div-lt-iff-lt-mul p .0 (c .if2 .taken) in
     sym (b .loop .inv .2 ∙ number-large (a .base) (a .limit) v (a .f .now) (b .loop .i) (c .before .before .before .before .loop-test .taken) p (omega arith))
 
+-- v ≤ limit / base says that v * base ≤ limit (`le-div-iff-mul-le`), so neither the product nor the difference overflows; the same below
 mul-if3 : tie.Need-mul-if3 Inv-loop μ-loop
 mul-if3 c =
     let b = c .before .before .before .before .before in
@@ -56,6 +59,7 @@ sub-if3 c =
     let b = c .before .before .before .before .before in
     le-div-iff-mul-le (b .before .before .pre) .0 (c .if2 .left)
 
+-- limit - v * base < d: the value with this digit is too large (`number-large`)
 returns-3 : tie.Need-returns-3 Inv-loop μ-loop
 returns-3 c =
     let b = c .before .before .before .before .before .before in
@@ -85,6 +89,7 @@ add-i c = omega arith
 loop-less : tie.Need-loop-less Inv-loop μ-loop
 loop-less c = omega arith
 
+-- one digit more (`number-on`). `k`: the byte is a digit of the base. The last test says that v * base + d is at most the limit
 loop-again : tie.Need-loop-again Inv-loop μ-loop
 loop-again c =
     let b = c .before .before .before .before .before .before in
@@ -98,6 +103,7 @@ loop-again c =
       b .loop .inv .2 ∙ number-on (a .base) (a .limit) v (a .f .now) (b .loop .i) (c .before .before .before .before .before .loop-test .taken) k ∙ ap (λ (n : ℕ). numberFrom (a .base) (a .limit) (v * a .base + n) (drop (b .loop .i + 1) (a .f .now))) (sym (d .ensures)),
     )
 
+-- no byte is left, and v is at most the limit, so v is the number
 returns-4 : tie.Need-returns-4 Inv-loop μ-loop
 unfolding numberFrom
 returns-4 c =

@@ -14,6 +14,7 @@ use Rattle.trace.proofs.Padded.{padded-next}
 use Rattle.trace.proofs.candidates_line.Statement.{statement}
 use Rattle.trace.proofs.candidates_line.Tie as tie
 
+-- after i candidates the numbers are the word, the first i indexes, and zeros
 abbrev Inv-loop : tie.InvT-loop
 Inv-loop list used numbers₀ i₀ numbers i = (i ≤ used) × (numbers ≡ padded (word.candidates ∷ take i (list .indexes)))
 
@@ -32,6 +33,7 @@ loop-holds c = search needs
 cast-at : tie.Need-cast-at Inv-loop μ-loop
 cast-at c = search needs
 
+-- i is below the number in use, which is at most the 16 slots of the list; the same below
 element-copy-out-from-u8 : tie.Need-element-copy-out-from-u8 Inv-loop μ-loop
 element-copy-out-from-u8 c =
     let l = c .before .before .before .args .t1 in
@@ -60,6 +62,7 @@ add-i c = omega arith
 loop-less : tie.Need-loop-less Inv-loop μ-loop
 loop-less c = omega arith
 
+-- one index more: the store at i + 1 puts it behind the word and the first i (`padded-next`)
 loop-again : tie.Need-loop-again Inv-loop μ-loop
 loop-again c =
     let b = c .before .before .before in
@@ -77,6 +80,7 @@ add-t19 c =
     let n : length (l .indexes) ≡ 16 = search needs in
     omega (arith, s .in-use .ensures, length-take (l .count) (l .indexes))
 
+-- `p`: i is as many as are in use, and to take so many takes what the count does (`take-used`). `q`: the word is one field more than there are candidates
 returns : tie.Need-returns Inv-loop μ-loop
 returns c =
     let b = c .before in

@@ -14,6 +14,8 @@ enum-known-step c = search needs
 number-line-requires : tie.Need-number-line-requires
 number-line-requires c κs = search needs
 
+-- one case for each step, in the order of the match. The match tells which step it is (`given`), which chooses the clause of `stepLine`; the call says that
+-- the line is what stands there
 returns : tie.Need-returns
 unfolding stepLine
 returns c = rw (c .before .before .step .given .1) (c .number-line .ensures)
@@ -67,6 +69,7 @@ send-word-requires c κs = search needs
 field-line-requires : tie.Need-field-line-requires
 field-line-requires c κs = search needs
 
+-- here and below, the word or the flag is made first: what it is goes into the line by `ap`
 returns-6 : tie.Need-returns-6
 unfolding stepLine
 returns-6 c = rw (c .before .before .before .step4 .given .1) (c .field-line .ensures ∙ ap (fieldLine kind.answer word.sendAnswer) (c .before .send-word .ensures))
@@ -132,6 +135,7 @@ word-line-requires-2 c κs = search needs
 leave-line-requires : tie.Need-leave-line-requires
 leave-line-requires c κs = search needs
 
+-- here and in the next case it is the line for nothing that goes in; it is printed where the slot is empty
 returns-11 : tie.Need-returns-11
 unfolding stepLine
 returns-11 c = rw (c .before .before .before .step9 .given .1) (c .leave-line .ensures ∙ ap (λ (l : Line). leaveLine l (c .before .before .before .step9 .given .0 .0)) (c .before .word-line2 .ensures))

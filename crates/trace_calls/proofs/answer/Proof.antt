@@ -1,6 +1,6 @@
 -- `answer` meets its contract. Assumes nothing.
 use mathlib.Core.Path.{_∙_}
-use Rattle.trace_calls.specs.Steps.{answer}
+use Rattle.trace_calls.specs.Private.{answer}
 use Rattle.trace_calls.proofs.Lines.{answer-other}
 use borrow.Author.Needs.{needs}
 use Rattle.trace_calls.proofs.answer.Statement.{statement}
@@ -12,6 +12,8 @@ enum-known-call c = search needs
 start-discovery-requires : tie.Need-start-discovery-requires
 start-discovery-requires c κs = search needs
 
+-- one case for each call, in the order of the match. The match tells which call it is (`given`), which chooses the clause of `answer`; the node's function
+-- promises what stands there
 returns : tie.Need-returns
 unfolding answer
 returns c = rw (c .before .before .call .given .1) (c .start-discovery .ensures)
@@ -129,6 +131,8 @@ returns-12 c = rw (c .before .enum-told5 .given .1) (c .take-leave-indication .e
 take-nwk-status-indication-requires : tie.Need-take-nwk-status-indication-requires
 take-nwk-status-indication-requires c κs = search needs
 
+-- the last arm takes every other call: `keys13` says that it is none of the twelve above, and for all that are left the definition has the same answer
+-- (`answer-other`)
 returns-13 : tie.Need-returns-13
 returns-13 c = c .take-nwk-status-indication .ensures ∙ answer-other (c .before .before .args .call) (c .before .before .args .state) (c .before .match .keys13)
 

@@ -1,5 +1,5 @@
 -- `state_after` meets its contract. Assumes nothing.
-use Rattle.trace_calls.specs.Steps.{stateAfter}
+use Rattle.trace_calls.specs.Private.{stateAfter}
 use Rattle.trace_calls.proofs.Lines.{state-other}
 use borrow.Author.Needs.{needs}
 use Rattle.trace_calls.proofs.state_after.Statement.{statement}

@@ -5,7 +5,7 @@ use native.Mathlib.Omega.{arith}
 use lib.ListN.{length, set}
 use lib.Seq.{set-out}
 use Rattle.lists.proofs.Lists.{length-mapped}
-use Rattle.mlme.specs.declared.PanDescriptorList.{PanDescriptorList}
+use Rattle.discovery.specs.declared.mlme.PanDescriptorList.{PanDescriptorList}
 use Rattle.trace_calls.specs.TraceCalls.{withBeacon}
 use borrow.Author.Needs.{needs}
 use Rattle.trace_calls.proofs.with_beacon.Statement.{statement}

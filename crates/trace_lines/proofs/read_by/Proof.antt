@@ -10,12 +10,13 @@ use Rattle.lists.specs.Lists.{firstIndex}
 use Rattle.text.specs.Text.{parts, fields}
 use Rattle.text.proofs.Parts.{parts-some}
 use Rattle.trace_lines.specs.TraceLines.{lettersOf, fits}
-use Rattle.trace_lines.specs.Steps.{readKind}
+use Rattle.trace_lines.specs.Private.{readKind}
 use Rattle.trace_lines.proofs.Places.{rest-part, part-is, part-last, part-next}
 use Rattle.trace_lines.proofs.Tables.{few-kinds, few-letters, kind-fits, kind-on, no-kind}
 use Rattle.trace_lines.proofs.read_by.Statement.{statement}
 use Rattle.trace_lines.proofs.read_by.Tie as tie
 
+-- kind k of the table begins at `at`, there is such a kind, and none before it fits: the first that fits is k on from the first among those from k on
 abbrev Inv-loop : tie.InvT-loop
 Inv-loop table line at₀ k₀ at k =
     (at ≤ length table) × (k < length (parts 59 table)) × (parts 59 (drop at table) ≡ drop k (parts 59 table))
@@ -39,6 +40,7 @@ part-part-end c = omega arith
 part-requires : tie.Need-part-requires Inv-loop μ-loop
 part-requires c κs = search needs
 
+-- `d`: what is read at `at` is kind k (`part-is`), and a kind of a table has at most 19 letters
 read-kind-requires : tie.Need-read-kind-requires Inv-loop μ-loop
 read-kind-requires c κs =
     let b = c .before .before in
@@ -51,6 +53,7 @@ read-kind-requires c κs =
     let d = part-is 59 t at k (b .loop .inv .0) (b .loop .inv .2) _ (rest-part 59 t at (c .part .ensures)) in
     omega (arith, ap (λ (x : List ℕ). length (lettersOf x)) d, few-letters ks (s .pre) k)
 
+-- `read_kind` gives kind 255 where kind k doesn't fit. It gave another, so kind k fits, and it is the first that does (`kind-fits`)
 returns : tie.Need-returns Inv-loop μ-loop
 returns c =
     let b = c .before .before .before .before .before in
@@ -67,6 +70,8 @@ returns c =
 add-end : tie.Need-add-end Inv-loop μ-loop
 add-end c = omega arith
 
+-- it gave kind 255, and k is below that, as a table has at most 255 kinds: kind k doesn't fit. It ends where the table ends, so it is the last
+-- (`part-last`), and no kind fits (`no-kind`)
 returns-2 : tie.Need-returns-2 Inv-loop μ-loop
 returns-2 c =
     let b = c .before .before .before .before .before .before in
@@ -116,6 +121,7 @@ loop-less c =
     let n = part-next 59 t at k (b .loop .inv .0) (b .loop .inv .2) _ (rest-part 59 t at (c .before .before .before .before .part .ensures)) _ refl (c .if2 .left) in
     omega (arith, n .0)
 
+-- kind k doesn't fit, so the first that fits comes after it (`kind-on`). The table goes on behind it, so kind k + 1 begins there (`part-next`)
 loop-again : tie.Need-loop-again Inv-loop μ-loop
 loop-again c =
     let b = c .before .before .before .before .before .before in

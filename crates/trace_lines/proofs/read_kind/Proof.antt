@@ -8,7 +8,7 @@ use borrow.Author.Tests.{not-true, not-false}
 use lib.ListN.{length, getD}
 use Rattle.text.specs.Text.{fields, sameText}
 use Rattle.trace_lines.specs.TraceLines.{wordOf}
-use Rattle.trace_lines.specs.Steps.{readAs}
+use Rattle.trace_lines.specs.Private.{readAs}
 use Rattle.trace_lines.proofs.Tables.{other-word, same-word}
 use borrow.Author.Needs.{needs}
 use Rattle.trace_lines.proofs.read_kind.Statement.{statement}

@@ -12,6 +12,8 @@ use Rattle.trace_lines.proofs.read_number.Tie as tie
 hex-requires : tie.Need-hex-requires
 hex-requires c κs = search needs
 
+-- `numberOf` asks for the letters in the order of the code. In each case below, the tests that were left and the one that was taken choose its branch
+-- (`ne-eqb`, `eq-eqb` turn them into the tests of the definition), and the call says what stands there
 returns : tie.Need-returns
 unfolding numberOf
 returns c =
@@ -77,6 +79,7 @@ most-requires c κs = search needs
 decimal-requires : tie.Need-decimal-requires
 decimal-requires c κs = search needs
 
+-- all five tests were left: a decimal number of at most what `most` says of the letter
 returns-6 : tie.Need-returns-6
 unfolding numberOf
 returns-6 c =

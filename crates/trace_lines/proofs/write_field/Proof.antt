@@ -18,6 +18,8 @@ write-word-requires c κs = search needs
 same-length : tie.Need-same-length
 same-length c = search needs
 
+-- `fieldText` asks for the letters in the order of the code. In each case below, the tests that were left and the one that was taken choose its branch
+-- (`ne-eqb`, `eq-eqb`), so the text that was written is the field's text (`written-as`)
 returns : tie.Need-returns
 unfolding fieldText
 returns c =
@@ -64,6 +66,7 @@ returns-4 c =
     let l = a .letter in
     written-as (a .out .now) (a .at) _ _ (cond (a .dash) (bytes "-") (hexText 16 (a .n))) (fieldText (a .dash) l (a .n)) (sym (rw (ne-eqb l aWord (c .before .before .before .before .before .before .before .if1 .left), ne-eqb l fourDigits (c .before .before .before .before .before .before .if2 .left), ne-eqb l sixteenDigits (c .before .before .before .before .before .if3 .left), eq-eqb l orDash (c .before .before .before .before .if4 .taken)))) (c .before .before .write-or-dash .ensures)
 
+-- the mask has 32 bits, so what it leaves fits a u32 (`mask-lt`)
 cast-write-decimal : tie.Need-cast-write-decimal
 cast-write-decimal c = record { fits = mask-lt (c .before .before .before .before .before .before .args .n) 32 }
 
@@ -73,6 +76,7 @@ write-decimal-requires c κs = search needs
 same-length-5 : tie.Need-same-length-5
 same-length-5 c = search needs
 
+-- no letter of the four: the mask leaves the remainder by 2^32 (`and-mask`), which is what the definition writes in decimal
 returns-5 : tie.Need-returns-5
 unfolding fieldText
 returns-5 c =

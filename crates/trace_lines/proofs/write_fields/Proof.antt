@@ -8,11 +8,12 @@ use lib.ListN.{length, take, getD, length-append}
 use lib.Seq.{sets, length-sets, take-all}
 use Rattle.lists.proofs.Bytes.{sets-join}
 use Rattle.trace_lines.specs.TraceLines.{fieldText, joined, textsOf}
-use Rattle.trace_lines.specs.Steps.{tabBefore}
+use Rattle.trace_lines.specs.Private.{tabBefore}
 use Rattle.trace_lines.proofs.Texts.{written-as, joined-next, tab-short, field-short, texts-long, text-at, front-long}
 use Rattle.trace_lines.proofs.write_fields.Statement.{statement}
 use Rattle.trace_lines.proofs.write_fields.Tie as tie
 
+-- after i fields the buffer has their texts, with a tab between each two, and `written` is how long they are
 abbrev Inv-loop : tie.InvT-loop
 Inv-loop out₀ start letters line count dash written₀ i₀ out written i = (i ≤ count) × (written ≡ length (joined (take i (textsOf letters line)))) × (out ≡ sets out₀ start (joined (take i (textsOf letters line))))
 
@@ -35,6 +36,7 @@ loop-holds : tie.Need-loop-holds Inv-loop μ-loop
 unfolding joined
 loop-holds c = (omega arith, refl, refl)
 
+-- `k` and `m`: the count is at most 20. i fields have at most 21 i bytes (`front-long`), so the place to write at is small
 add-write-next : tie.Need-add-write-next Inv-loop μ-loop
 add-write-next c =
     let b = c .before .before in
@@ -80,6 +82,7 @@ write-next-requires c κs =
     let m = b .before .before .smaller .ensures in
     omega (arith, s .pre, k, m, b .loop .inv .1, front-long (a .letters .now) (a .t4) (b .loop .i))
 
+-- the next field has at most 20 bytes (`field-short`), and one tab before it (`tab-short`)
 add-written : tie.Need-add-written Inv-loop μ-loop
 add-written c =
     let b = c .before .before .before .before .before .before .before in
@@ -104,6 +107,8 @@ add-i c =
 loop-less : tie.Need-loop-less Inv-loop μ-loop
 loop-less c = omega arith
 
+-- one field more. `e`: the texts so far, the tab and the text of field i are the first i + 1 texts (`joined-next`, `text-at`). `r`: two texts that are
+-- written one behind the other are their join written at once (`sets-join`)
 loop-again : tie.Need-loop-again Inv-loop μ-loop
 loop-again c =
     let b = c .before .before .before .before .before .before .before in
@@ -131,6 +136,7 @@ same-length c =
     let m = b .before .before .smaller .ensures in
     ap length (b .loop .inv .2) ∙ length-sets (a .out .now) (a .start) (joined (take (b .loop .i) (textsOf (a .letters .now) (a .t4))))
 
+-- the count is the smallest of the line's count, its letters and its 20 numbers, so the fields so far are all (`texts-long`)
 returns : tie.Need-returns Inv-loop μ-loop
 returns c =
     let b = c .before in

@@ -3,7 +3,7 @@ use native.Mathlib.Omega.{arith}
 use lib.ListN.{length-append}
 use Rattle.lists.proofs.Bytes.{sets-join}
 use Rattle.trace_lines.specs.TraceLines.{fieldText}
-use Rattle.trace_lines.specs.Steps.{tabBefore}
+use Rattle.trace_lines.specs.Private.{tabBefore}
 use Rattle.trace_lines.proofs.Texts.{tab-short, field-short}
 use borrow.Author.Needs.{needs}
 use Rattle.trace_lines.proofs.write_next.Statement.{statement}

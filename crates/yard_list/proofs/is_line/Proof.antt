@@ -9,11 +9,12 @@ use lib.ListN.{length, drop, getD, drop-of-length-le}
 use Rattle.text.specs.Text.{fields}
 use Rattle.yard_list.specs.declared.Form.the-variants.{EntryWord}
 use Rattle.yard_list.specs.YardList.{fits, allFit}
-use Rattle.yard_list.specs.Steps.{formsOf}
+use Rattle.yard_list.specs.Private.{formsOf}
 use Rattle.yard_list.proofs.Lines.{fit-long, fit-stops, fit-on}
 use Rattle.yard_list.proofs.is_line.Statement.{statement}
 use Rattle.yard_list.proofs.is_line.Tie as tie
 
+-- the first k fields have their forms: the line fits if the fields from k on fit the forms from k on
 abbrev Inv-loop : tie.InvT-loop
 Inv-loop line kind count k₀ k = (k ≤ count) × (allFit (formsOf kind) (fields line) ≡ allFit (drop k (formsOf kind)) (drop k (fields line)))
 
@@ -26,6 +27,7 @@ field-count-requires c κs = search needs
 part-count-requires : tie.Need-part-count-requires Inv-loop μ-loop
 part-count-requires c κs = search needs
 
+-- other than as many fields as forms (`fit-long`)
 returns : tie.Need-returns Inv-loop μ-loop
 returns c =
     let a = c .before .before .before .before .args in
@@ -45,6 +47,7 @@ field-requires c κs = search needs
 has-form-requires : tie.Need-has-form-requires Inv-loop μ-loop
 has-form-requires c κs = search needs
 
+-- field k does not have its form. `t`: what `has_form` says is the test of the definition; where it fails, the fields from k on don't fit (`fit-stops`)
 returns-2 : tie.Need-returns-2 Inv-loop μ-loop
 returns-2 c =
     let b = c .before .before .before .before .before in
@@ -65,6 +68,7 @@ add-k c = omega arith
 loop-less : tie.Need-loop-less Inv-loop μ-loop
 loop-less c = omega arith
 
+-- field k has its form, so the answer is that of the fields from k + 1 on (`fit-on`)
 loop-again : tie.Need-loop-again Inv-loop μ-loop
 loop-again c =
     let b = c .before .before .before .before .before in
@@ -79,6 +83,7 @@ loop-again c =
     let t : c .before .has-form .result ≡ fits (getD ms k EntryWord) (getD fs k []) = c .before .has-form .ensures ∙ (λ j. fits (c .before .before .before .form-of .ensures j) (c .before .before .field .ensures j)) in
     (omega arith, b .loop .inv .1 ∙ fit-on ms fs k hm hf (sym t ∙ not-false _ (c .if2 .left)))
 
+-- after the last field no form and no field is left, and nothing fits nothing
 returns-3 : tie.Need-returns-3 Inv-loop μ-loop
 returns-3 c =
     let b = c .before in

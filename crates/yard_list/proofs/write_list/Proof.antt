@@ -37,6 +37,7 @@ slice-aggregate-write c = search needs
 write-requires : tie.Need-write-requires
 write-requires c κs = search needs
 
+-- the header has 34 bytes, and the table has at most 16 entries, so its candidates are at most 16 indexes of it (`named`)
 write-rows-requires : tie.Need-write-rows-requires
 write-rows-requires c κs =
     let s = c .before .before .before .before .before .before .before .before .before .before .before in
@@ -46,6 +47,7 @@ write-rows-requires c κs =
     let ns = take (s .args .ended - 1) (drop 1 ls) in
     (omega (arith, c .before .before .before .write .ensures .0), named (t .result) (l .result) (fields (c .before .before .before .before .before .before .before .part .result .now)) ns (t .ensures) (omega (arith, s .pre .1, length-take (s .args .ended - 1) (drop 1 ls))) (l .ensures))
 
+-- at most 16 candidates (`named`), each with a line of at most 49 bytes (`rows-long`)
 add-result : tie.Need-add-result
 add-result c =
     let s = c .before .before .before .before .before .before .before .before .before .before .before .before .before .before in
@@ -59,6 +61,8 @@ add-result c =
 same-length : tie.Need-same-length
 same-length c = search needs
 
+-- `e`: the table's entries are those of the lines after the first. `y`: the list's items are the candidates that line 1 asks for among them. `x`: so the
+-- header and their lines are the text of the definition (`list-is`). They are written one behind the other (`sets-join`)
 returns : tie.Need-returns
 returns c =
     let s = c .before .before .before .before .before .before .before .before .before .before .before .before .before .before in

@@ -16,6 +16,8 @@ use Rattle.yard_list.proofs.write_row.Tie as tie
 write-number-requires : tie.Need-write-number-requires
 write-number-requires c κs = search needs
 
+-- a column with a number has at most 11 bytes (`cell-long`), and one with an address has 5: with these no sum overflows, and each place to write at is at
+-- most 1000, as the row begins at 900 or before; the same below
 add-write-number : tie.Need-add-write-number
 add-write-number c = omega (arith, c .before .before .before .write-number .ensures .0, cell-long (c .before .before .before .before .before .before .args .place) 9)
 
@@ -55,6 +57,8 @@ add-result c = omega (arith, c .before .before .write-number4 .ensures .0, cell-
 same-length : tie.Need-same-length
 same-length c = search needs
 
+-- t1 to t5 are the texts of the columns. s2 to s5: a text that is written right behind the others is their join written at once (`sets-join`). `e`: the
+-- join, with the brackets to the right, is the row
 returns : tie.Need-returns
 returns c =
     let a = c .before .before .before .before .before .before .before .before .before .before .before .before .before .before .before .before .before .before .before .before .before .args in

@@ -16,6 +16,7 @@ use Rattle.yard_list.proofs.Rows.{rows-next, row-long, rows-long, item-
 use Rattle.yard_list.proofs.write_rows.Statement.{statement}
 use Rattle.yard_list.proofs.write_rows.Tie as tie
 
+-- after i candidates the buffer has their lines, and `written` is how long they are
 abbrev Inv-loop : tie.InvT-loop
 Inv-loop out₀ start table list count written₀ i₀ out written i = (i ≤ count) × (written ≡ length (rowsFrom (entriesOf table) 1 (take i (itemsOf list)))) × (out ≡ sets out₀ start (rowsFrom (entriesOf table) 1 (take i (itemsOf list))))
 
@@ -34,6 +35,7 @@ cast-k c = omega arith
 element-copy-out-index : tie.Need-element-copy-out-index Inv-loop μ-loop
 element-copy-out-index c = omega (arith, c .before .before .before .pre .1 .few)
 
+-- the index at i is one of the list's items (`item-at`), and each item is below the number of entries (`within`)
 entry-at-requires : tie.Need-entry-at-requires Inv-loop μ-loop
 entry-at-requires c κs =
     let b = c .before .before in
@@ -44,6 +46,7 @@ entry-at-requires c κs =
     let r = item-at l (b .loop .i) n (s .pre .1 .few) (c .before .loop-test .taken) in
     subst (λ (x : ℕ). x < length (entriesOf t)) (r .1) (All-getD (λ x. x < length (entriesOf t)) (itemsOf l) (b .loop .i) 0 (s .pre .1 .within) (r .0))
 
+-- i lines have at most 49 i bytes (`rows-long`), i is below 16 and the start at most 100: the place is at most 900
 add-write-row : tie.Need-add-write-row Inv-loop μ-loop
 add-write-row c =
     let b = c .before .before .before .before in
@@ -74,6 +77,8 @@ add-i c = omega (arith, c .before .before .before .before .before .before .befor
 loop-less : tie.Need-loop-less Inv-loop μ-loop
 loop-less c = omega arith
 
+-- one line more. `e`: the lines so far and that of candidate i, whose place is i + 1, are the first i + 1 lines (`rows-next`). Two texts that are written
+-- one behind the other are their join written at once (`sets-join`)
 loop-again : tie.Need-loop-again Inv-loop μ-loop
 loop-again c =
     let b = c .before .before .before .before .before .before .before in

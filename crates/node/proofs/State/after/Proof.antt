@@ -7,15 +7,12 @@ use Rattle.node.proofs.State.after.Tie as tie
 enum-known-then : tie.Need-enum-known-then
 enum-known-then c = search needs
 
-going-on-requires : tie.Need-going-on-requires
-going-on-requires c κs = search needs
-
-decided-on-requires : tie.Need-decided-on-requires
-decided-on-requires c κs = search needs
+go-on-requires : tie.Need-go-on-requires
+go-on-requires c κs = search needs
 
 returns : tie.Need-returns
 unfolding after
-returns c = rw (c .before .before .before .then .given .1, c .decided-on .ensures, c .before .going-on .ensures)
+returns c = rw (c .before .before .then .given .1, c .go-on .ensures)
 
 enum-known-then-2 : tie.Need-enum-known-then-2
 enum-known-then-2 c = search needs
@@ -23,22 +20,21 @@ enum-known-then-2 c = search needs
 transmit-requires : tie.Need-transmit-requires
 transmit-requires c κs = search needs
 
-decided-on-requires-2 : tie.Need-decided-on-requires-2
-decided-on-requires-2 c κs = search needs
+decided-on-requires : tie.Need-decided-on-requires
+decided-on-requires c κs = search needs
 
 returns-2 : tie.Need-returns-2
 unfolding after
-returns-2 c = rw (c .before .before .before .then2 .given .1, c .decided-on2 .ensures, c .before .transmit .ensures)
+returns-2 c = rw (c .before .before .before .then2 .given .1, c .decided-on .ensures, c .before .transmit .ensures)
 
 pub after-spec : {M : Type 1} → statement M
 after-spec =
     tie.close
     (tie.spec
     enum-known-then
-    going-on-requires
-    decided-on-requires
+    go-on-requires
     returns
     enum-known-then-2
     transmit-requires
-    decided-on-requires-2
+    decided-on-requires
     returns-2)

@@ -36,15 +36,15 @@ tried-requires c κs = search needs
 next-requires : tie.Need-next-requires
 next-requires c κs = search needs
 
-association-over-requires : tie.Need-association-over-requires
-association-over-requires c κs = search needs
+decide-association-requires : tie.Need-decide-association-requires
+decide-association-requires c κs = search needs
 
 decided-on-requires : tie.Need-decided-on-requires
 decided-on-requires c κs = search needs
 
 returns-3 : tie.Need-returns-3
 unfolding answer outcome
-returns-3 c = rw (c .decided-on .ensures, c .before .association-over .ensures, c .before .before .next .ensures, c .before .before .before .tried .ensures) (sym (ap (λ (p : Phase). outcome (associationFor p) (associationOver (c .before .before .before .before .before .before .before .before .before .args .outcome)) (c .before .before .before .before .before .before .before .before .before .args .self)) (c .before .before .before .before .enum-told .given .1)) ∙ pick-false (bad (c .before .before .before .before .before .before .before .before .before .args .self)) _ _ (sym (c .before .before .before .before .before .before .before .before .is-bad .ensures) ∙ c .before .before .before .before .before .before .before .if1 .left))
+returns-3 c = rw (c .decided-on .ensures, c .before .decide-association .ensures, c .before .before .next .ensures, c .before .before .before .tried .ensures) (sym (ap (λ (p : Phase). outcome (associationFor p) (associationOver (c .before .before .before .before .before .before .before .before .before .args .outcome)) (c .before .before .before .before .before .before .before .before .before .args .self)) (c .before .before .before .before .enum-told .given .1)) ∙ pick-false (bad (c .before .before .before .before .before .before .before .before .before .args .self)) _ _ (sym (c .before .before .before .before .before .before .before .before .is-bad .ensures) ∙ c .before .before .before .before .before .before .before .if1 .left))
 
 pub association-over-spec : {M : Type 1} → statement M
-association-over-spec = tie.close (tie.spec is-bad-requires refuse-requires returns enum-told refuse-requires-2 returns-2 tried-requires next-requires association-over-requires decided-on-requires returns-3)
+association-over-spec = tie.close (tie.spec is-bad-requires refuse-requires returns enum-told refuse-requires-2 returns-2 tried-requires next-requires decide-association-requires decided-on-requires returns-3)

@@ -6,14 +6,14 @@ use Rattle.node.proofs.State.dealt_with.Tie as tie
 with-nlme-requires : tie.Need-with-nlme-requires
 with-nlme-requires c κs = search needs
 
-changed-requires : tie.Need-changed-requires
-changed-requires c κs = search needs
+change-table-requires : tie.Need-change-table-requires
+change-table-requires c κs = search needs
 
 after-requires : tie.Need-after-requires
 after-requires c κs = search needs
 
 returns : tie.Need-returns
-returns c = rw (c .after .ensures, c .before .changed .ensures, c .before .before .with-nlme .ensures)
+returns c = rw (c .after .ensures, c .before .change-table .ensures, c .before .before .with-nlme .ensures)
 
 pub dealt-with-spec : {M : Type 1} → statement M
-dealt-with-spec = tie.close (tie.spec with-nlme-requires changed-requires after-requires returns)
+dealt-with-spec = tie.close (tie.spec with-nlme-requires change-table-requires after-requires returns)

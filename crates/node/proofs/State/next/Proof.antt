@@ -1,5 +1,5 @@
 -- `State::next` meets its contract. Assumes nothing.
-use Rattle.tries.specs.Tries.{nextIn}
+use Rattle.candidates.specs.Tries.{nextIn}
 use borrow.Author.Needs.{needs}
 use Rattle.node.proofs.State.next.Statement.{statement}
 use Rattle.node.proofs.State.next.Tie as tie

@@ -1,6 +1,6 @@
 -- `State::parent` meets its contract. Assumes nothing.
-use Rattle.neighbor_table.specs.NeighborTable.{parentOf}
-use Rattle.tries.specs.Tries.{parentIn}
+use Rattle.nib.specs.NeighborTable.{parentOf}
+use Rattle.candidates.specs.Tries.{parentIn}
 use borrow.Author.Needs.{needs}
 use Rattle.node.proofs.State.parent.Statement.{statement}
 use Rattle.node.proofs.State.parent.Tie as tie

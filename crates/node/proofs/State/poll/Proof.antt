@@ -18,15 +18,15 @@ returns c = rw (c .refuse .ensures) (start-refused (c .before .before .before .a
 parent-requires : tie.Need-parent-requires
 parent-requires c κs = search needs
 
-poll-started-requires : tie.Need-poll-started-requires
-poll-started-requires c κs = search needs
+start-poll-requires : tie.Need-start-poll-requires
+start-poll-requires c κs = search needs
 
 decided-on-requires : tie.Need-decided-on-requires
 decided-on-requires c κs = search needs
 
 returns-2 : tie.Need-returns-2
 unfolding answer
-returns-2 c = rw (c .decided-on .ensures, c .before .poll-started .ensures, c .before .before .parent .ensures) (start-made (c .before .before .before .before .before .args .self) _ _ (c .before .before .before .before .start-refusal .ensures) (c .before .before .before .if1 .left))
+returns-2 c = rw (c .decided-on .ensures, c .before .start-poll .ensures, c .before .before .parent .ensures) (start-made (c .before .before .before .before .before .args .self) _ _ (c .before .before .before .before .start-refusal .ensures) (c .before .before .before .if1 .left))
 
 pub poll-spec : {M : Type 1} → statement M
-poll-spec = tie.close (tie.spec start-refusal-requires refuse-requires returns parent-requires poll-started-requires decided-on-requires returns-2)
+poll-spec = tie.close (tie.spec start-refusal-requires refuse-requires returns parent-requires start-poll-requires decided-on-requires returns-2)

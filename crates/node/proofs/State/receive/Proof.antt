@@ -15,15 +15,15 @@ returns : tie.Need-returns
 unfolding answer
 returns c = rw (c .refuse .ensures) (start-refused (c .before .before .before .args .self) _ _ (c .before .before .start-refusal .ensures) (c .before .if1 .taken))
 
-receive-started-requires : tie.Need-receive-started-requires
-receive-started-requires c κs = search needs
+start-receive-requires : tie.Need-start-receive-requires
+start-receive-requires c κs = search needs
 
 decided-on-requires : tie.Need-decided-on-requires
 decided-on-requires c κs = search needs
 
 returns-2 : tie.Need-returns-2
 unfolding answer
-returns-2 c = rw (c .decided-on .ensures, c .before .receive-started .ensures) (start-made (c .before .before .before .before .args .self) _ _ (c .before .before .before .start-refusal .ensures) (c .before .before .if1 .left))
+returns-2 c = rw (c .decided-on .ensures, c .before .start-receive .ensures) (start-made (c .before .before .before .before .args .self) _ _ (c .before .before .before .start-refusal .ensures) (c .before .before .if1 .left))
 
 pub receive-spec : {M : Type 1} → statement M
-receive-spec = tie.close (tie.spec start-refusal-requires refuse-requires returns receive-started-requires decided-on-requires returns-2)
+receive-spec = tie.close (tie.spec start-refusal-requires refuse-requires returns start-receive-requires decided-on-requires returns-2)

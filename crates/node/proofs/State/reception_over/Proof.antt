@@ -17,6 +17,7 @@ is-bad-requires c κs = search needs
 refuse-requires : tie.Need-refuse-requires
 refuse-requires c κs = search needs
 
+-- the state is bad: 5 comes before all else
 returns : tie.Need-returns
 unfolding answer
 returns c = c .refuse .ensures ∙ pick-true (bad (c .before .before .before .args .self)) _ _ (sym (c .before .before .is-bad .ensures) ∙ c .before .if1 .taken)
@@ -27,6 +28,7 @@ enum-known-phase c = search needs
 refuse-requires-2 : tie.Need-refuse-requires-2
 refuse-requires-2 c κs = search needs
 
+-- no reception is awaited: `keys2` says that the phase is one of the other four, and with each of them the answer is 2 (`no-reception`)
 returns-2 : tie.Need-returns-2
 unfolding answer
 returns-2 c = c .refuse2 .ensures ∙ no-reception (c .before .before .before .before .before .args .self .control .operation .phase) _ _ (c .before .match .keys2) ∙ pick-false (bad (c .before .before .before .before .before .args .self)) _ _ (sym (c .before .before .before .before .is-bad .ensures) ∙ c .before .before .before .if1 .left)
@@ -37,38 +39,34 @@ enum-told c = search needs
 no-data-requires : tie.Need-no-data-requires
 no-data-requires c κs = search needs
 
-going-on-requires : tie.Need-going-on-requires
-going-on-requires c κs = search needs
+go-on-requires : tie.Need-go-on-requires
+go-on-requires c κs = search needs
 
-decided-on-requires : tie.Need-decided-on-requires
-decided-on-requires c κs = search needs
-
+-- the phase is a reception, and the state is not bad (`pick-false`). Here and below the calls give what `receptionOver` says of the outcome; the two `ap`
+-- put the phase and the outcome, which the code has matched, back in their places
 returns-3 : tie.Need-returns-3
 unfolding answer outcome receptionOver
 returns-3 c =
-    let s = c .before .before .before .before .before .before .before .before .before .before .before .args .self in
-    rw (c .decided-on .ensures, c .before .going-on .ensures, c .before .before .no-data .ensures)
-    (sym (ap (λ (p : Phase). outcome (receptionFor p) (receptionOver ReceptionOutcome.NoData) s) (c .before .before .before .before .before .before .phase .given .1))
-    ∙ sym (ap (λ (o : ReceptionOutcome). outcome (receptionFor (s .control .operation .phase)) (receptionOver o) s) (c .before .before .before .enum-told .given .1))
-    ∙ pick-false (bad s) _ _ (sym (c .before .before .before .before .before .before .before .before .before .before .is-bad .ensures) ∙ c .before .before .before .before .before .before .before .before .before .if1 .left))
+    let s = c .before .before .before .before .before .before .before .before .before .before .args .self in
+    rw (c .go-on .ensures, c .before .no-data .ensures)
+    (sym (ap (λ (p : Phase). outcome (receptionFor p) (receptionOver ReceptionOutcome.NoData) s) (c .before .before .before .before .before .phase .given .1))
+    ∙ sym (ap (λ (o : ReceptionOutcome). outcome (receptionFor (s .control .operation .phase)) (receptionOver o) s) (c .before .before .enum-told .given .1))
+    ∙ pick-false (bad s) _ _ (sym (c .before .before .before .before .before .before .before .before .before .is-bad .ensures) ∙ c .before .before .before .before .before .before .before .before .if1 .left))
 
 enum-told-2 : tie.Need-enum-told-2
 enum-told-2 c = search needs
 
-going-on-requires-2 : tie.Need-going-on-requires-2
-going-on-requires-2 c κs = search needs
-
-decided-on-requires-2 : tie.Need-decided-on-requires-2
-decided-on-requires-2 c κs = search needs
+go-on-requires-2 : tie.Need-go-on-requires-2
+go-on-requires-2 c κs = search needs
 
 returns-4 : tie.Need-returns-4
 unfolding answer outcome receptionOver
 returns-4 c =
-    let s = c .before .before .before .before .before .before .before .before .before .before .args .self in
-    rw (c .decided-on2 .ensures, c .before .going-on2 .ensures)
-    (sym (ap (λ (p : Phase). outcome (receptionFor p) (receptionOver ReceptionOutcome.ReceptionFailed) s) (c .before .before .before .before .before .phase .given .1))
-    ∙ sym (ap (λ (o : ReceptionOutcome). outcome (receptionFor (s .control .operation .phase)) (receptionOver o) s) (c .before .before .enum-told2 .given .1))
-    ∙ pick-false (bad s) _ _ (sym (c .before .before .before .before .before .before .before .before .before .is-bad .ensures) ∙ c .before .before .before .before .before .before .before .before .if1 .left))
+    let s = c .before .before .before .before .before .before .before .before .before .args .self in
+    rw (c .go-on2 .ensures)
+    (sym (ap (λ (p : Phase). outcome (receptionFor p) (receptionOver ReceptionOutcome.ReceptionFailed) s) (c .before .before .before .before .phase .given .1))
+    ∙ sym (ap (λ (o : ReceptionOutcome). outcome (receptionFor (s .control .operation .phase)) (receptionOver o) s) (c .before .enum-told2 .given .1))
+    ∙ pick-false (bad s) _ _ (sym (c .before .before .before .before .before .before .before .before .is-bad .ensures) ∙ c .before .before .before .before .before .before .before .if1 .left))
 
 enum-known-outcome : tie.Need-enum-known-outcome
 enum-known-outcome c = search needs
@@ -97,12 +95,10 @@ reception-over-spec =
     returns-2
     enum-told
     no-data-requires
-    going-on-requires
-    decided-on-requires
+    go-on-requires
     returns-3
     enum-told-2
-    going-on-requires-2
-    decided-on-requires-2
+    go-on-requires-2
     returns-4
     enum-known-outcome
     frame-received-requires

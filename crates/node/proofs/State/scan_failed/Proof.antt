@@ -20,15 +20,12 @@ returns c = rw (c .before .before .enum-told .given .1, c .decided-on .ensures, 
 enum-told-2 : tie.Need-enum-told-2
 enum-told-2 c = search needs
 
-failing-requires : tie.Need-failing-requires
-failing-requires c κs = search needs
-
-decided-on-requires-2 : tie.Need-decided-on-requires-2
-decided-on-requires-2 c κs = search needs
+fail-join-requires : tie.Need-fail-join-requires
+fail-join-requires c κs = search needs
 
 returns-2 : tie.Need-returns-2
 unfolding scanFailed
-returns-2 c = rw (c .before .before .enum-told2 .given .1, c .decided-on2 .ensures, c .before .failing .ensures)
+returns-2 c = rw (c .before .enum-told2 .given .1, c .fail-join .ensures)
 
 pub scan-failed-spec : {M : Type 1} → statement M
-scan-failed-spec = tie.close (tie.spec enum-told ending-requires decided-on-requires returns enum-told-2 failing-requires decided-on-requires-2 returns-2)
+scan-failed-spec = tie.close (tie.spec enum-told ending-requires decided-on-requires returns enum-told-2 fail-join-requires returns-2)

@@ -6,11 +6,11 @@ use borrow.Author.Tests.{lt-ltb, le-ltb, ltb-false}
 use Rattle.lists.proofs.Conditions.{pick-true, pick-false}
 use Rattle.nib.specs.Neighbors.{tableOf}
 use Rattle.nib.specs.declared.NeighborTable.{NeighborTable}
-use Rattle.mlme.specs.Mlme.{descriptorsOf}
+use Rattle.discovery.specs.Mlme.{descriptorsOf}
 use Rattle.discovery.specs.Discovery.{shortAddressed}
 use Rattle.discovery.proofs.Scans.{neighbors-all}
 use Rattle.node.specs.Looks.{withTable}
-use Rattle.node.specs.Calls.{heard, scanHeard, scanOver}
+use Rattle.node.specs.Calls.{withScan, scanHeard, scanOver}
 use borrow.Author.Needs.{needs}
 use Rattle.node.proofs.State.scan_listed.Statement.{statement}
 use Rattle.node.proofs.State.scan_listed.Tie as tie
@@ -52,7 +52,7 @@ scan-heard-requires : tie.Need-scan-heard-requires
 scan-heard-requires c κs = search needs
 
 returns-4 : tie.Need-returns-4
-unfolding scanOver heard
+unfolding scanOver withScan
 returns-4 c =
     let a = c .before .before .before .before .before .before .before .before .args in
     let o = a .outcome in

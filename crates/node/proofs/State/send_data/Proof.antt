@@ -18,15 +18,15 @@ returns c = rw (c .refuse .ensures) (start-refused (c .before .before .before .a
 parent-requires : tie.Need-parent-requires
 parent-requires c κs = search needs
 
-send-started-requires : tie.Need-send-started-requires
-send-started-requires c κs = search needs
+start-send-requires : tie.Need-start-send-requires
+start-send-requires c κs = search needs
 
 decided-on-requires : tie.Need-decided-on-requires
 decided-on-requires c κs = search needs
 
 returns-2 : tie.Need-returns-2
 unfolding answer
-returns-2 c = rw (c .decided-on .ensures, c .before .send-started .ensures, c .before .before .parent .ensures) (start-made (c .before .before .before .before .before .args .self) _ _ (c .before .before .before .before .start-refusal .ensures) (c .before .before .before .if1 .left))
+returns-2 c = rw (c .decided-on .ensures, c .before .start-send .ensures, c .before .before .parent .ensures) (start-made (c .before .before .before .before .before .args .self) _ _ (c .before .before .before .before .start-refusal .ensures) (c .before .before .before .if1 .left))
 
 pub send-data-spec : {M : Type 1} → statement M
-send-data-spec = tie.close (tie.spec start-refusal-requires refuse-requires returns parent-requires send-started-requires decided-on-requires returns-2)
+send-data-spec = tie.close (tie.spec start-refusal-requires refuse-requires returns parent-requires start-send-requires decided-on-requires returns-2)

@@ -18,15 +18,15 @@ returns c = rw (c .refuse .ensures) (start-refused (c .before .before .before .a
 parent-requires : tie.Need-parent-requires
 parent-requires c κs = search needs
 
-timeout-started-requires : tie.Need-timeout-started-requires
-timeout-started-requires c κs = search needs
+start-timeout-request-requires : tie.Need-start-timeout-request-requires
+start-timeout-request-requires c κs = search needs
 
 decided-on-requires : tie.Need-decided-on-requires
 decided-on-requires c κs = search needs
 
 returns-2 : tie.Need-returns-2
 unfolding answer
-returns-2 c = rw (c .decided-on .ensures, c .before .timeout-started .ensures, c .before .before .parent .ensures) (start-made (c .before .before .before .before .before .args .self) _ _ (c .before .before .before .before .start-refusal .ensures) (c .before .before .before .if1 .left))
+returns-2 c = rw (c .decided-on .ensures, c .before .start-timeout-request .ensures, c .before .before .parent .ensures) (start-made (c .before .before .before .before .before .args .self) _ _ (c .before .before .before .before .start-refusal .ensures) (c .before .before .before .if1 .left))
 
 pub start-timeout-spec : {M : Type 1} → statement M
-start-timeout-spec = tie.close (tie.spec start-refusal-requires refuse-requires returns parent-requires timeout-started-requires decided-on-requires returns-2)
+start-timeout-spec = tie.close (tie.spec start-refusal-requires refuse-requires returns parent-requires start-timeout-request-requires decided-on-requires returns-2)

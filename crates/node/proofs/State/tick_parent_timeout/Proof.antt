@@ -20,15 +20,15 @@ returns c = c .refuse .ensures ∙ pick-true (bad (c .before .before .before .ar
 parent-requires : tie.Need-parent-requires
 parent-requires c κs = search needs
 
-ticked-requires : tie.Need-ticked-requires
-ticked-requires c κs = search needs
+decide-tick-requires : tie.Need-decide-tick-requires
+decide-tick-requires c κs = search needs
 
 decided-on-requires : tie.Need-decided-on-requires
 decided-on-requires c κs = search needs
 
 returns-2 : tie.Need-returns-2
 unfolding answer
-returns-2 c = rw (c .decided-on .ensures, c .before .ticked .ensures, c .before .before .parent .ensures) (pick-false (bad (c .before .before .before .before .before .args .self)) _ _ (sym (c .before .before .before .before .is-bad .ensures) ∙ c .before .before .before .if1 .left))
+returns-2 c = rw (c .decided-on .ensures, c .before .decide-tick .ensures, c .before .before .parent .ensures) (pick-false (bad (c .before .before .before .before .before .args .self)) _ _ (sym (c .before .before .before .before .is-bad .ensures) ∙ c .before .before .before .if1 .left))
 
 pub tick-parent-timeout-spec : {M : Type 1} → statement M
-tick-parent-timeout-spec = tie.close (tie.spec is-bad-requires refuse-requires returns parent-requires ticked-requires decided-on-requires returns-2)
+tick-parent-timeout-spec = tie.close (tie.spec is-bad-requires refuse-requires returns parent-requires decide-tick-requires decided-on-requires returns-2)

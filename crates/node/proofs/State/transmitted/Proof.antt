@@ -58,12 +58,12 @@ returns-3 c = rw (c .before .before .before .before .purpose .given .1, c .decid
 enum-known-purpose-2 : tie.Need-enum-known-purpose-2
 enum-known-purpose-2 c = search needs
 
-left-requires : tie.Need-left-requires
-left-requires c κs = search needs
+finish-leave-requires : tie.Need-finish-leave-requires
+finish-leave-requires c κs = search needs
 
 returns-4 : tie.Need-returns-4
 unfolding transmissionOver
-returns-4 c = rw (c .before .before .purpose2 .given .1) (c .left .ensures)
+returns-4 c = rw (c .before .before .purpose2 .given .1) (c .finish-leave .ensures)
 
 pub transmitted-spec : {M : Type 1} → statement M
-transmitted-spec = tie.close (tie.spec enum-told parent-requires next-requires request-sent-requires decided-on-requires returns enum-told-2 parent-requires-2 data-sent-requires decided-on-requires-2 returns-2 enum-known-purpose parent-requires-3 timeout-request-sent-requires decided-on-requires-3 returns-3 enum-known-purpose-2 left-requires returns-4)
+transmitted-spec = tie.close (tie.spec enum-told parent-requires next-requires request-sent-requires decided-on-requires returns enum-told-2 parent-requires-2 data-sent-requires decided-on-requires-2 returns-2 enum-known-purpose parent-requires-3 timeout-request-sent-requires decided-on-requires-3 returns-3 enum-known-purpose-2 finish-leave-requires returns-4)

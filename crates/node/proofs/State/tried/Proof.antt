@@ -1,5 +1,5 @@
 -- `State::tried` meets its contract. Assumes nothing.
-use Rattle.tries.specs.Tries.{triedIn}
+use Rattle.candidates.specs.Tries.{triedIn}
 use borrow.Author.Needs.{needs}
 use Rattle.node.proofs.State.tried.Statement.{statement}
 use Rattle.node.proofs.State.tried.Tie as tie

@@ -1,6 +1,6 @@
 -- `Session::called` meets its contract. Assumes nothing.
 use Rattle.trace_calls.specs.TraceCalls.{told, shown, paged}
-use Rattle.trace_calls.specs.Steps.{called}
+use Rattle.trace_calls.specs.Private.{called}
 use Rattle.trace_calls.proofs.Lines.{called-other}
 use borrow.Author.Needs.{needs}
 use Rattle.trace_calls.proofs.Session.called.Statement.{statement}

@@ -2,7 +2,7 @@
 use mathlib.Core.Path.{_∙_, sym, ap}
 use borrow.Author.Tests.{not-true, not-false}
 use Rattle.trace_calls.specs.TraceCalls.{bad}
-use Rattle.trace_calls.specs.Steps.{byKind}
+use Rattle.trace_calls.specs.Private.{byKind}
 use Rattle.trace_calls.specs.declared.Kind.{Kind}
 use Rattle.trace_calls.proofs.Lines.{kind-left, refused-line, taken-line}
 use borrow.Author.Needs.{needs}

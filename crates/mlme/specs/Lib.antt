@@ -1,2 +1,0 @@
--- The definitions of `mlme`.
-pub mod Mlme

@@ -1,3 +1,0 @@
--- The definitions of `neighbor_table`.
-pub mod NeighborTable
-pub mod Steps

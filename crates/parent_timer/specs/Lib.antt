@@ -1,2 +1,0 @@
--- The definitions of `parent_timer`.
-pub mod Timer

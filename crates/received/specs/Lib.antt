@@ -1,2 +1,0 @@
--- The definitions of `received`.
-pub mod Received

@@ -1,2 +1,0 @@
--- The definitions of `rejoin`.
-pub mod Rejoin

@@ -1,2 +1,0 @@
--- The definitions of `tries`.
-pub mod Tries
