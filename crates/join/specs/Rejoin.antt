@@ -11,6 +11,7 @@ use Rattle.management.specs.declared.NlmeJoinStatus.{NlmeJoinStatus}
 use Rattle.management.specs.declared.NlmeJoinRequest.{NlmeJoinRequest}
 use Rattle.management.specs.declared.RejoinResponse.{RejoinResponse}
 use Rattle.management.specs.declared.RejoinResponseSlot.{RejoinResponseSlot}
+use Rattle.management.specs.declared.frame.SentCommand.{SentCommand}
 use Rattle.management.specs.declared.frame.SentFrame.{SentFrame}
 use Rattle.nlme.specs.Fields.{withNib, withSignals, withExtendedPanId, withAdopted}
 use Rattle.nlme.specs.Nlme.{commandHeader, seqUsed, transmission}
@@ -62,7 +63,7 @@ abbrev pub rejoinRequest : NwkNeighbor → Control → RadioRequest
 rejoinRequest p c =
     RadioRequest.Transmit
     (transmission (c .nlme) (p .«network_address»)
-    (SentFrame.RejoinRequest (commandHeader (c .nlme) (p .«network_address») (knownIeee (Neighbor.Entry p)) (c .operation .«security_enabled»)) (c .nlme .nib .«capability_information»)))
+    (SentFrame.CommandFrame (commandHeader (c .nlme) (p .«network_address») (knownIeee (Neighbor.Entry p)) (c .operation .«security_enabled»)) (SentCommand.RejoinRequest (c .nlme .nib .«capability_information»))))
 
 unfoldable pub trying : Move → Note → NwkNeighbor → Control → Decision
 trying m note p c =

@@ -8,6 +8,7 @@ use management::NlmeJoinRequest;
 use management::NlmeJoinStatus;
 use management::RejoinResponse;
 use management::RejoinResponseSlot;
+use management::frame::SentCommand;
 use management::frame::SentFrame;
 use nib::ExtendedPanId;
 use nib::Neighbor;
@@ -98,7 +99,7 @@ fn rejoin_request(control: Control, parent: NwkNeighbor) -> RadioRequest
     let ieee = neighbor_table::known_ieee(Neighbor::Entry(parent));
     let secure = control.operation.security_enabled;
     let header = control.nlme.command_header(address, ieee, secure);
-    let frame = SentFrame::RejoinRequest(header, capabilities);
+    let frame = SentFrame::CommandFrame(header, SentCommand::RejoinRequest(capabilities));
     RadioRequest::Transmit(Transmission {
         pan_id,
         address,
@@ -131,16 +132,12 @@ fn trying(mut control: Control, candidate: Move, note: Note, parent: NwkNeighbor
 fn scan_or_end(mut control: Control, status: NlmeJoinStatus) -> Decision
     ensures { λ r. ⌜ r ≡ scanOrEnd status control ⌝ }
 {
-    let scan = control.operation.scan;
-    if scan.past <= scan.first {
+    let range = control.operation.scan;
+    if range.past <= range.first {
         return crate::failing(control, status);
     }
     control.operation.scan_requested = true;
-    operation::asking(
-        control,
-        Phase::Scan(ScanFor::Rejoin),
-        RadioRequest::Scan(scan),
-    )
+    operation::scan(control, ScanFor::Rejoin, range)
 }
 
 // The remembered parent comes first.

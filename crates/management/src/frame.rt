@@ -52,13 +52,19 @@ pub struct DataHeader {
     pub secure: bool,
 }
 
+// A command that is sent.
+pub enum SentCommand {
+    RejoinRequest(CapabilityInformation),
+    // the requested timeout index
+    TimeoutRequest(u8),
+    // its options, without the request bit
+    Leave(LeaveOptions),
+}
+
+// A frame that is sent.
 pub enum SentFrame {
     DataFrame(DataHeader),
-    RejoinRequest(CommandHeader, CapabilityInformation),
-    // the requested timeout index
-    TimeoutRequest(CommandHeader, u8),
-    // its options, without the request bit
-    Leave(CommandHeader, LeaveOptions),
+    CommandFrame(CommandHeader, SentCommand),
 }
 
 // The sequence number after one: up by one, and from 255 to 0.

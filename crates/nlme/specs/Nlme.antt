@@ -16,6 +16,7 @@ use Rattle.management.specs.declared.SendAnswer.{SendAnswer}
 use Rattle.management.specs.declared.StatusIndicationSlot.{StatusIndicationSlot}
 use Rattle.management.specs.Frame.{nextSeq}
 use Rattle.management.specs.declared.frame.CommandHeader.{CommandHeader}
+use Rattle.management.specs.declared.frame.SentCommand.{SentCommand}
 use Rattle.management.specs.declared.frame.SentFrame.{SentFrame}
 use Rattle.nlme.specs.declared.Nlme.{Nlme}
 use Rattle.nlme.specs.declared.NlmeTicked.{NlmeTicked}
@@ -67,7 +68,7 @@ timeoutRequested parent n =
     record {
       nlme = withPending (n .nib .«end_device_timeout_default») (seqUsed n);
       transmission = transmission n (parent .«network_address»)
-          (SentFrame.TimeoutRequest (commandHeader n (parent .«network_address») (knownIeee (Neighbor.Entry parent)) true) (n .nib .«end_device_timeout_default»));
+          (SentFrame.CommandFrame (commandHeader n (parent .«network_address») (knownIeee (Neighbor.Entry parent)) true) (SentCommand.TimeoutRequest (n .nib .«end_device_timeout_default»)));
     }
 
 -- the tick (01, "Supervision record"; Zigbee 3.6.10.6): expiry signals ParentLinkFailure

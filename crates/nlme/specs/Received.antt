@@ -22,6 +22,7 @@ use Rattle.management.specs.declared.PollAnswer.{PollAnswer}
 use Rattle.management.specs.declared.frame.Source.{Source}
 use Rattle.management.specs.declared.frame.LeaveOptions.{LeaveOptions}
 use Rattle.management.specs.declared.frame.ReceivedFrame.{ReceivedFrame}
+use Rattle.management.specs.declared.frame.SentCommand.{SentCommand}
 use Rattle.management.specs.declared.frame.SentFrame.{SentFrame}
 use Rattle.nlme.specs.Fields.{withNib, withPending, withSignals, withAddress, withExtendedPanId, withNegotiated, withNetworkLeft}
 use Rattle.nlme.specs.Nlme.{refreshed, commandHeader, seqUsed, transmission, parentAddress}
@@ -97,7 +98,7 @@ acceptsLeave nib destination byParent =
 -- `announce_leave` (Zigbee 3.6.1.10.1): a router broadcasts, an end device tells its parent with the remove children bit 0
 abbrev pub leaveTo : Nlme → ShortAddress → OptionalIeee → Bool → Bool → Transmission
 leaveTo n to ieee rejoin children =
-    transmission n to (SentFrame.Leave (commandHeader n to ieee true) (record { request = false; rejoin = rejoin; «remove_children» = children }))
+    transmission n to (SentFrame.CommandFrame (commandHeader n to ieee true) (SentCommand.Leave (record { request = false; rejoin = rejoin; «remove_children» = children })))
 
 unfoldable pub announcement : Nlme → Neighbor → OptionalIeee → LeaveOptions → Transmission
 announcement n parent broadcastIeee o =

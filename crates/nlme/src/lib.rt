@@ -11,6 +11,7 @@ use management::Signals;
 use management::StatusIndicationSlot;
 use management::frame;
 use management::frame::CommandHeader;
+use management::frame::SentCommand;
 use management::frame::SentFrame;
 use nib::Neighbor;
 use nib::Nib;
@@ -145,7 +146,8 @@ impl Nlme {
     {
         let ieee = neighbor_table::known_ieee(Neighbor::Entry(parent));
         let header = self.command_header(parent.network_address, ieee, true);
-        let frame = SentFrame::TimeoutRequest(header, self.nib.end_device_timeout_default);
+        let command = SentCommand::TimeoutRequest(self.nib.end_device_timeout_default);
+        let frame = SentFrame::CommandFrame(header, command);
         let pan_id = self.nib.panid;
         let address = parent.network_address;
         Transmission {

@@ -15,6 +15,7 @@ use management::TimeoutResponseSlot;
 use management::frame;
 use management::frame::LeaveOptions;
 use management::frame::ReceivedFrame;
+use management::frame::SentCommand;
 use management::frame::SentFrame;
 use management::frame::Source;
 use nib::Neighbor;
@@ -194,7 +195,7 @@ fn leave_to(
         rejoin,
         remove_children,
     };
-    let frame = SentFrame::Leave(header, options);
+    let frame = SentFrame::CommandFrame(header, SentCommand::Leave(options));
     Transmission {
         pan_id,
         address,

@@ -26,7 +26,7 @@ use Rattle.nlme.specs.Received.{taught, handled, leaveAnnounced}
 use Rattle.nlme.specs.declared.received.TableChange.{TableChange}
 use Rattle.nlme.specs.declared.received.Then.{Then}
 use Rattle.nlme.specs.declared.received.Handled.{Handled}
-use Rattle.operation.specs.Operation.{withNlme, scanFor, associationFor, transmissionFor, receptionFor, isDiscovered, telling, asking, ending}
+use Rattle.operation.specs.Operation.{withNlme, scanFor, associationFor, transmissionFor, receptionFor, isDiscovered, telling, asking, announcing, ending}
 use Rattle.operation.specs.declared.TimeoutFor.{TimeoutFor}
 use Rattle.operation.specs.declared.Purpose.{Purpose}
 use Rattle.operation.specs.declared.ScanFor.{ScanFor}
@@ -130,8 +130,7 @@ tableChanged (TableChange.RemoveNeighbor a) s = withTable (tableOf (retained (a 
 -- a frame is dealt with: the poll goes on, or a leave is announced first
 unfoldable pub after : Purpose → Then → State → Answer
 after u (Then.Over a) s = goOn false u a s
-after u (Then.Announce a) s =
-    deciding s (asking (Phase.Transmission (TransmissionFor.Leave (record { purpose = u; rejoin = a .rejoin }))) (RadioRequest.Transmit (a .transmission)) (s .control))
+after u (Then.Announce a) s = deciding s (announcing u a (s .control))
 
 abbrev pub handledOn : Purpose → Handled → State → Answer
 handledOn u h s = after u (h .then) (tableChanged (h .change) (withNode (h .nlme) s))

@@ -1,11 +1,13 @@
 // A node's state, and every call that can be made on it.
 ghost use mathlib.Core.Path.{_≡_};
 ghost use mathlib.Core.Bool.{true, false, cond, not};
-ghost use Rattle.operation.specs.Operation.{isIdle, associationFor};
+ghost use Rattle.operation.specs.Operation.{isIdle, associationFor, telling, ending};
 ghost use Rattle.join.specs.Join.{failing};
+ghost use Rattle.join.specs.Rejoin.{requestSent};
+ghost use Rattle.exchange.specs.Exchange.{dataSent, timeoutRequestSent};
 ghost use Rattle.node.specs.Looks.{parent, tried, next, deciding};
 ghost use Rattle.node.specs.Refusals.{refuse, pastIn, badBy, bad};
-ghost use Rattle.node.specs.Calls.{joinBy, associate, scanFailed, scanHeard, scanOver, confirmBy, scanned, continuing, goOn, tableChanged, after, handledOn, taughtOn, processed, receptionOver, afterLeave, transmissionOver, answer, choose, pageAnswer, pageLeft, discovery, join, send, poll, receive, timeout, scan, association, transmission, reception, elapsed, takeLeave, takeStatus};
+ghost use Rattle.node.specs.Calls.{joinBy, associate, withChosen, rejoinAmong, scanFailed, scanHeard, scanOver, confirmBy, scanned, continuing, goOn, tableChanged, after, handledOn, taughtOn, processed, receptionOver, afterLeave, transmissionOver, answer, choose, pageAnswer, pageLeft, discovery, join, send, poll, receive, timeout, scan, association, transmission, reception, elapsed, takeLeave, takeStatus};
 ghost use Rattle.discovery.specs.Mlme.{descriptorsOf};
 ghost use lib.ListN.{length};
 use candidates::CandidateList;
@@ -43,7 +45,6 @@ use operation::Note;
 use operation::Operation;
 use operation::Phase;
 use operation::Purpose;
-use operation::RadioRequest;
 use operation::ScanFor;
 use operation::Step;
 use operation::TimeoutFor;
@@ -246,9 +247,7 @@ impl State {
         if refusal != 0 {
             return self.refuse(refusal);
         }
-        let request = RadioRequest::Scan(range);
-        let decision = operation::asking(self.control, Phase::Scan(ScanFor::Discovery), request);
-        self.decided_on(decision)
+        self.decided_on(operation::scan(self.control, ScanFor::Discovery, range))
     }
 
     // A join or rejoin ends without success.
@@ -365,40 +364,44 @@ impl State {
 
 // The outcome of a scan.
 impl State {
+    fn end_discovery(self, step: Step) -> Answer
+        ensures { λ r. ⌜ r ≡ deciding self (ending step (self .control)) ⌝ }
+    {
+        self.decided_on(operation::ending(self.control, step))
+    }
+
+    // A rejoin goes on to its candidates.
+    fn try_candidates(mut self) -> Answer
+        ensures { λ r. ⌜ r ≡ rejoinAmong (withChosen false (self .control .operation .«extended_pan_id» .0) (self .control .nlme .nib .«capability_information») self) ⌝ }
+    {
+        let require_permit_joining = false;
+        self.candidates = tries::chosen(
+            self.table,
+            self.control.nlme.nib.stack_profile,
+            require_permit_joining,
+            self.control.operation.extended_pan_id,
+            self.control.nlme.nib.capability_information,
+        );
+        let next = self.next();
+        self.decided_on(rejoin::try_next(self.control, NlmeJoinStatus::NotPermitted, next))
+    }
+
     fn scan_failed(self, purpose: ScanFor) -> Answer
         ensures { λ r. ⌜ r ≡ scanFailed purpose self ⌝ }
     {
         match purpose {
-            ScanFor::Discovery => {
-                let decision = operation::ending(self.control, Step::DiscoveryFailed);
-                return self.decided_on(decision);
-            }
+            ScanFor::Discovery => return self.end_discovery(Step::DiscoveryFailed),
             ScanFor::Rejoin => return self.fail_join(NlmeJoinStatus::MacError),
         }
     }
 
     // The table is made from the scan: a discovery ends, a rejoin goes on to its candidates.
-    fn scan_heard(mut self, purpose: ScanFor) -> Answer
+    fn scan_heard(self, purpose: ScanFor) -> Answer
         ensures { λ r. ⌜ r ≡ scanHeard purpose self ⌝ }
     {
         match purpose {
-            ScanFor::Discovery => {
-                let decision = operation::ending(self.control, Step::Discovered);
-                return self.decided_on(decision);
-            }
-            ScanFor::Rejoin => {
-                let require_permit_joining = false;
-                self.candidates = tries::chosen(
-                    self.table,
-                    self.control.nlme.nib.stack_profile,
-                    require_permit_joining,
-                    self.control.operation.extended_pan_id,
-                    self.control.nlme.nib.capability_information,
-                );
-                let next = self.next();
-                let decision = rejoin::try_next(self.control, NlmeJoinStatus::NotPermitted, next);
-                return self.decided_on(decision);
-            }
+            ScanFor::Discovery => return self.end_discovery(Step::Discovered),
+            ScanFor::Rejoin => return self.try_candidates(),
         }
     }
 
@@ -503,16 +506,7 @@ impl State {
         match then {
             Then::Over(answer) => return self.go_on(purpose, answer),
             Then::Announce(announcement) => {
-                let leave = TransmissionFor::Leave(Leaving {
-                    purpose,
-                    rejoin: announcement.rejoin,
-                });
-                let decision = operation::transmit(
-                    self.control,
-                    Phase::Transmission(leave),
-                    announcement.transmission,
-                );
-                return self.decided_on(decision);
+                return self.decided_on(operation::announce(self.control, purpose, announcement));
             }
         }
     }
@@ -610,30 +604,37 @@ impl State {
         answer
     }
 
+    fn after_rejoin_request(self, sent: bool) -> Answer
+        ensures { λ r. ⌜ r ≡ deciding self (requestSent sent (parent self) (next self) (self .control)) ⌝ }
+    {
+        let parent = self.parent();
+        let next = self.next();
+        self.decided_on(rejoin::request_sent(self.control, sent, parent, next))
+    }
+
+    fn after_data(self, sent: bool) -> Answer
+        ensures { λ r. ⌜ r ≡ deciding self (dataSent sent (parent self) (self .control)) ⌝ }
+    {
+        let parent = self.parent();
+        self.decided_on(exchange::data_sent(self.control, sent, parent))
+    }
+
+    fn after_timeout_request(self, purpose: TimeoutFor, sent: bool) -> Answer
+        ensures { λ r. ⌜ r ≡ deciding self (timeoutRequestSent purpose sent (parent self) (self .control)) ⌝ }
+    {
+        let parent = self.parent();
+        self.decided_on(negotiation::timeout_request_sent(self.control, purpose, sent, parent))
+    }
+
+    // By what the transmission was for.
     fn transmitted(self, purpose: TransmissionFor, sent: bool) -> Answer
         ensures { λ r. ⌜ r ≡ transmissionOver sent purpose self ⌝ }
     {
         match purpose {
-            TransmissionFor::RejoinRequest => {
-                let parent = self.parent();
-                let next = self.next();
-                let decision = rejoin::request_sent(self.control, sent, parent, next);
-                return self.decided_on(decision);
-            }
-            TransmissionFor::Data => {
-                let parent = self.parent();
-                let decision = exchange::data_sent(self.control, sent, parent);
-                return self.decided_on(decision);
-            }
+            TransmissionFor::RejoinRequest => return self.after_rejoin_request(sent),
+            TransmissionFor::Data => return self.after_data(sent),
             TransmissionFor::TimeoutRequest(timeout) => {
-                let parent = self.parent();
-                let decision = negotiation::timeout_request_sent(
-                    self.control,
-                    timeout,
-                    sent,
-                    parent,
-                );
-                return self.decided_on(decision);
+                return self.after_timeout_request(timeout, sent);
             }
             TransmissionFor::Leave(leaving) => return self.finish_leave(leaving),
         }
@@ -712,6 +713,12 @@ impl State {
 
 // The neighbour page.
 impl State {
+    fn page_written(self) -> Answer
+        ensures { λ r. ⌜ r ≡ deciding self (telling Step.PageWritten (self .control)) ⌝ }
+    {
+        self.decided_on(operation::telling(self.control, Step::PageWritten))
+    }
+
     // Writes the neighbour table as text for the depot screen, 17 rows of 47 characters, each with a line feed, at the start of a lent buffer: `PageWritten`, with the state as
     // handed in. Refusal 6 for a buffer shorter than 816 bytes; after a refusal no byte of it has changed, and those past 816 never do.
     pub fn write_neighbor_page(self, page: &mut [u8]) -> Answer
@@ -723,6 +730,6 @@ impl State {
         if !neighbor_page::write_page(page, self.table) {
             return self.refuse(6);
         }
-        self.decided_on(operation::telling(self.control, Step::PageWritten))
+        self.page_written()
     }
 }

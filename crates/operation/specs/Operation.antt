@@ -6,6 +6,7 @@ use lib.Dec.{eqb}
 use Rattle.nib.specs.declared.NwkNeighbor.{NwkNeighbor}
 use Rattle.nib.specs.declared.Neighbor.{Neighbor}
 use Rattle.nlme.specs.declared.Nlme.{Nlme}
+use Rattle.nlme.specs.declared.received.LeaveAnnouncement.{LeaveAnnouncement}
 use Rattle.operation.specs.declared.Purpose.{Purpose}
 use Rattle.operation.specs.declared.ScanFor.{ScanFor}
 use Rattle.operation.specs.declared.TransmissionFor.{TransmissionFor}
@@ -120,6 +121,11 @@ telling s c = decided Move.Stay Note.NoNote s c
 -- a request to the radio, whose outcome is awaited
 abbrev pub asking : Phase → RadioRequest → Control → Decision
 asking p r c = telling (Step.Ask r) (inPhase p c)
+
+-- the announcement of a leave that a poll has brought: what the poll was for goes on afterwards
+abbrev pub announcing : Purpose → LeaveAnnouncement → Control → Decision
+announcing u a c =
+    asking (Phase.Transmission (TransmissionFor.Leave (record { purpose = u; rejoin = a .rejoin }))) (RadioRequest.Transmit (a .transmission)) c
 
 -- the operation is over, with its answer
 abbrev pub ending : Step → Control → Decision

@@ -1,6 +1,6 @@
 // The operation under way, requests to the radio, and what a decision says.
 ghost use mathlib.Core.Path.{_≡_};
-ghost use Rattle.operation.specs.Operation.{withNlme, withPollsLeft, inPhase, isIdle, decided, telling, asking, ending, polled, polling, isDiscovered};
+ghost use Rattle.operation.specs.Operation.{withNlme, withPollsLeft, inPhase, isIdle, decided, telling, asking, announcing, ending, polled, polling, isDiscovered};
 ghost use Rattle.operation.specs.declared.RadioRequest.the-variants.{Transmit};
 use discovery::mlme::MacCapabilityInformation;
 use management::KeepaliveAnswer;
@@ -18,6 +18,7 @@ use nib::PanId;
 use nib::ShortAddress;
 use nlme::Nlme;
 use nlme::Transmission;
+use nlme::received::LeaveAnnouncement;
 
 // What a timeout request is sent for.
 pub enum TimeoutFor {
@@ -240,6 +241,25 @@ pub fn transmit(control: Control, phase: Phase, frame: Transmission) -> Decision
     ensures { λ r. ⌜ r ≡ asking phase (Transmit frame) control ⌝ }
 {
     asking(control, phase, RadioRequest::Transmit(frame))
+}
+
+// A scan of some channels, for a purpose.
+pub fn scan(control: Control, purpose: ScanFor, range: ScanRange) -> Decision
+    ensures { λ r. ⌜ r ≡ asking (Phase.Scan purpose) (RadioRequest.Scan range) control ⌝ }
+{
+    asking(control, Phase::Scan(purpose), RadioRequest::Scan(range))
+}
+
+// The announcement of a leave that a poll has brought. What the poll was for goes on afterwards.
+pub fn announce(control: Control, purpose: Purpose, announcement: LeaveAnnouncement) -> Decision
+    ensures { λ r. ⌜ r ≡ announcing purpose announcement control ⌝ }
+{
+    let leaving = Leaving {
+        purpose,
+        rejoin: announcement.rejoin,
+    };
+    let phase = Phase::Transmission(TransmissionFor::Leave(leaving));
+    transmit(control, phase, announcement.transmission)
 }
 
 // A poll of the parent, for a purpose: the only step that uses a poll.

@@ -43,7 +43,9 @@ use Rattle.management.specs.declared.TimeoutResponseSlot.the-variants.{NoTimeou
 use Rattle.management.specs.declared.frame.CommandHeader.{CommandHeader}
 use Rattle.management.specs.declared.frame.DataHeader.{DataHeader}
 use Rattle.management.specs.declared.frame.SentFrame.{SentFrame}
-use Rattle.management.specs.declared.frame.SentFrame.the-variants.{DataFrame, RejoinRequest, TimeoutRequest, Leave}
+use Rattle.management.specs.declared.frame.SentFrame.the-variants.{DataFrame, CommandFrame}
+use Rattle.management.specs.declared.frame.SentCommand.{SentCommand}
+use Rattle.management.specs.declared.frame.SentCommand.the-variants.{RejoinRequest, TimeoutRequest, Leave}
 use Rattle.supervision.specs.declared.TransmitFailure.{TransmitFailure}
 use Rattle.nlme.specs.declared.Nlme.{Nlme}
 use Rattle.operation.specs.declared.AssociateRequest.{AssociateRequest}
@@ -181,11 +183,14 @@ dataLine pan address h =
     lineBy kind.sentData false
     (word.transmit ∷ pan .0 ∷ address .0 ∷ word.dataFrame ∷ h .destination .0 ∷ h .source .0 ∷ h .«sequence_number» ∷ flag (h .secure) ∷ [])
 
+unfoldable pub commandFrameLine : PanId → ShortAddress → CommandHeader → SentCommand → Line
+commandFrameLine pan address h (RejoinRequest c) = commandLine kind.sentRequest pan address word.rejoinRequest h (c .0 ∷ [])
+commandFrameLine pan address h (TimeoutRequest i) = commandLine kind.sentRequest pan address word.timeoutRequest h (i ∷ [])
+commandFrameLine pan address h (Leave o) = commandLine kind.sentLeave pan address word.leave h (flag (o .rejoin) ∷ flag (o .«remove_children») ∷ [])
+
 unfoldable pub transmitLine : PanId → ShortAddress → SentFrame → Line
 transmitLine pan address (DataFrame h) = dataLine pan address h
-transmitLine pan address (RejoinRequest h c) = commandLine kind.sentRequest pan address word.rejoinRequest h (c .0 ∷ [])
-transmitLine pan address (TimeoutRequest h i) = commandLine kind.sentRequest pan address word.timeoutRequest h (i ∷ [])
-transmitLine pan address (Leave h o) = commandLine kind.sentLeave pan address word.leave h (flag (o .rejoin) ∷ flag (o .«remove_children») ∷ [])
+transmitLine pan address (CommandFrame h command) = commandFrameLine pan address h command
 
 abbrev pub pollLine : PanId → ShortAddress → Line
 pollLine pan address = lineBy kind.poll false (word.poll ∷ pan .0 ∷ address .0 ∷ [])

@@ -36,6 +36,7 @@ ghost use Rattle.trace.specs.Lines.{
   ieeeNumber,
   dataLine,
   commandLine,
+  commandFrameLine,
   transmitLine,
   pollLine,
   requestLine,
@@ -72,6 +73,7 @@ use management::StatusIndicationSlot;
 use management::TimeoutResponseSlot;
 use management::frame::CommandHeader;
 use management::frame::DataHeader;
+use management::frame::SentCommand;
 use management::frame::SentFrame;
 use nib::DeviceType;
 use nib::MAX_NEIGBOUR_TABLE;
@@ -580,12 +582,16 @@ fn command_line(
     }
 }
 
-fn transmit_line(pan_id: PanId, address: ShortAddress, frame: SentFrame) -> Line
-    ensures { λ r. ⌜ r ≡ transmitLine «pan_id» address frame ⌝ }
+fn command_frame_line(
+    pan_id: PanId,
+    address: ShortAddress,
+    h: CommandHeader,
+    command: SentCommand,
+) -> Line
+    ensures { λ r. ⌜ r ≡ commandFrameLine «pan_id» address h command ⌝ }
 {
-    match frame {
-        SentFrame::DataFrame(h) => return data_line(pan_id, address, h),
-        SentFrame::RejoinRequest(h, c) => {
+    match command {
+        SentCommand::RejoinRequest(c) => {
             return command_line(
                 kind::SENT_REQUEST,
                 pan_id,
@@ -596,7 +602,7 @@ fn transmit_line(pan_id: PanId, address: ShortAddress, frame: SentFrame) -> Line
                 0,
             );
         }
-        SentFrame::TimeoutRequest(h, index) => {
+        SentCommand::TimeoutRequest(index) => {
             return command_line(
                 kind::SENT_REQUEST,
                 pan_id,
@@ -607,7 +613,7 @@ fn transmit_line(pan_id: PanId, address: ShortAddress, frame: SentFrame) -> Line
                 0,
             );
         }
-        SentFrame::Leave(h, options) => {
+        SentCommand::Leave(options) => {
             return command_line(
                 kind::SENT_LEAVE,
                 pan_id,
@@ -617,6 +623,17 @@ fn transmit_line(pan_id: PanId, address: ShortAddress, frame: SentFrame) -> Line
                 flag(options.rejoin),
                 flag(options.remove_children),
             );
+        }
+    }
+}
+
+fn transmit_line(pan_id: PanId, address: ShortAddress, frame: SentFrame) -> Line
+    ensures { λ r. ⌜ r ≡ transmitLine «pan_id» address frame ⌝ }
+{
+    match frame {
+        SentFrame::DataFrame(h) => return data_line(pan_id, address, h),
+        SentFrame::CommandFrame(h, command) => {
+            return command_frame_line(pan_id, address, h, command);
         }
     }
 }

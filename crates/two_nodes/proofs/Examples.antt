@@ -23,7 +23,8 @@ use Rattle.management.specs.declared.frame.ReceivedFrame.the-variants.{Data, Re
 use Rattle.management.specs.declared.frame.CommandHeader.{CommandHeader}
 use Rattle.management.specs.declared.frame.ReceivedFrame.{ReceivedFrame}
 use Rattle.management.specs.declared.frame.SentFrame.{SentFrame}
-use Rattle.management.specs.declared.frame.SentFrame.the-variants.{RejoinRequest, Leave}
+use Rattle.management.specs.declared.frame.SentFrame.the-variants.{CommandFrame}
+use Rattle.management.specs.declared.frame.SentCommand.the-variants.{RejoinRequest, Leave}
 use Rattle.operation.specs.Operation.{isIdle, polling, pollOn}
 use Rattle.operation.specs.declared.ScanFor.{ScanFor}
 use Rattle.operation.specs.declared.Phase.{Phase}
@@ -188,13 +189,13 @@ transmits to frame = Ask (Transmit (record { «pan_id» = record { 0 = 17 }; add
 
 -- the rejoin request of a node with capabilities, and an end device's; the announcement of a leave by a router
 abbrev rejoinsAs : ℕ → ℕ → ℕ → OptionalIeee → Step
-rejoinsAs capabilities sequence address ieee = transmits address (RejoinRequest (header address ieee sequence false) (record { 0 = capabilities }))
+rejoinsAs capabilities sequence address ieee = transmits address (CommandFrame (header address ieee sequence false) (RejoinRequest (record { 0 = capabilities })))
 
 abbrev rejoins : ℕ → ℕ → OptionalIeee → Step
 rejoins sequence address ieee = rejoinsAs 0x80 sequence address ieee
 
 abbrev announces : ℕ → OptionalIeee → Step
-announces sequence ieee = transmits 0xffff (Leave (header 0xffff ieee sequence true) (record { request = false; rejoin = true; «remove_children» = false }))
+announces sequence ieee = transmits 0xffff (CommandFrame (header 0xffff ieee sequence true) (Leave (record { request = false; rejoin = true; «remove_children» = false })))
 
 abbrev polls : ℕ → Step
 polls address = Ask (Poll (record { 0 = 17 }) (record { 0 = address }))

@@ -17,15 +17,15 @@ returns c =
     let s = c .before .before .before .before .args .control .operation .scan in
     c .failing .ensures ∙ pick-true (leb (s .past) (s .first)) _ _ (le-leb (s .past) (s .first) (c .before .if1 .taken))
 
-asking-requires : tie.Need-asking-requires
-asking-requires c κs = search needs
+scan-requires : tie.Need-scan-requires
+scan-requires c κs = search needs
 
 returns-2 : tie.Need-returns-2
 unfolding scanOrEnd
 returns-2 c =
     let s = c .before .before .before .before .before .args .control .operation .scan in
-    c .asking .ensures ∙ pick-false (leb (s .past) (s .first)) _ _ (lt-leb (s .past) (s .first) (c .before .before .if1 .left))
+    c .scan .ensures ∙ pick-false (leb (s .past) (s .first)) _ _ (lt-leb (s .past) (s .first) (c .before .before .if1 .left))
 
 pub scan-or-end-spec : {M : Type 1} → statement M
 scan-or-end-spec =
-    tie.close (tie.spec failing-requires returns asking-requires returns-2)
+    tie.close (tie.spec failing-requires returns scan-requires returns-2)

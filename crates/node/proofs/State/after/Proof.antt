@@ -17,15 +17,15 @@ returns c = rw (c .before .before .then .given .1, c .go-on .ensures)
 enum-known-then-2 : tie.Need-enum-known-then-2
 enum-known-then-2 c = search needs
 
-transmit-requires : tie.Need-transmit-requires
-transmit-requires c κs = search needs
+announce-requires : tie.Need-announce-requires
+announce-requires c κs = search needs
 
 decided-on-requires : tie.Need-decided-on-requires
 decided-on-requires c κs = search needs
 
 returns-2 : tie.Need-returns-2
 unfolding after
-returns-2 c = rw (c .before .before .before .then2 .given .1, c .decided-on .ensures, c .before .transmit .ensures)
+returns-2 c = rw (c .before .before .before .then2 .given .1, c .decided-on .ensures, c .before .announce .ensures)
 
 pub after-spec : {M : Type 1} → statement M
 after-spec =
@@ -35,6 +35,6 @@ after-spec =
     go-on-requires
     returns
     enum-known-then-2
-    transmit-requires
+    announce-requires
     decided-on-requires
     returns-2)

@@ -7,15 +7,12 @@ use Rattle.node.proofs.State.scan_failed.Tie as tie
 enum-told : tie.Need-enum-told
 enum-told c = search needs
 
-ending-requires : tie.Need-ending-requires
-ending-requires c κs = search needs
-
-decided-on-requires : tie.Need-decided-on-requires
-decided-on-requires c κs = search needs
+end-discovery-requires : tie.Need-end-discovery-requires
+end-discovery-requires c κs = search needs
 
 returns : tie.Need-returns
 unfolding scanFailed
-returns c = rw (c .before .before .enum-told .given .1, c .decided-on .ensures, c .before .ending .ensures)
+returns c = rw (c .before .enum-told .given .1, c .end-discovery .ensures)
 
 enum-told-2 : tie.Need-enum-told-2
 enum-told-2 c = search needs
@@ -28,4 +25,4 @@ unfolding scanFailed
 returns-2 c = rw (c .before .enum-told2 .given .1, c .fail-join .ensures)
 
 pub scan-failed-spec : {M : Type 1} → statement M
-scan-failed-spec = tie.close (tie.spec enum-told ending-requires decided-on-requires returns enum-told-2 fail-join-requires returns-2)
+scan-failed-spec = tie.close (tie.spec enum-told end-discovery-requires returns enum-told-2 fail-join-requires returns-2)

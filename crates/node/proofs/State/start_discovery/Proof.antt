@@ -15,15 +15,15 @@ returns : tie.Need-returns
 unfolding answer
 returns c = rw (c .refuse .ensures) (start-refused (c .before .before .before .args .self) _ _ (c .before .before .start-refusal .ensures) (c .before .if1 .taken))
 
-asking-requires : tie.Need-asking-requires
-asking-requires c κs = search needs
+scan-requires : tie.Need-scan-requires
+scan-requires c κs = search needs
 
 decided-on-requires : tie.Need-decided-on-requires
 decided-on-requires c κs = search needs
 
 returns-2 : tie.Need-returns-2
 unfolding answer
-returns-2 c = rw (c .decided-on .ensures, c .before .asking .ensures) (start-made (c .before .before .before .before .args .self) _ _ (c .before .before .before .start-refusal .ensures) (c .before .before .if1 .left))
+returns-2 c = rw (c .decided-on .ensures, c .before .scan .ensures) (start-made (c .before .before .before .before .args .self) _ _ (c .before .before .before .start-refusal .ensures) (c .before .before .if1 .left))
 
 pub start-discovery-spec : {M : Type 1} → statement M
-start-discovery-spec = tie.close (tie.spec start-refusal-requires refuse-requires returns asking-requires decided-on-requires returns-2)
+start-discovery-spec = tie.close (tie.spec start-refusal-requires refuse-requires returns scan-requires decided-on-requires returns-2)

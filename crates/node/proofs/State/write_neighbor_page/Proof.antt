@@ -1,11 +1,10 @@
 -- `State::write_neighbor_page` meets its contract. Assumes nothing.
-use mathlib.Core.Path.{_≡_, sym, ap, _∙_}
+use mathlib.Core.Path.{_≡_, sym, _∙_}
 use mathlib.Core.Bool.{true, false}
 use borrow.Author.Tests.{not-true, not-false}
 use lib.ListN.{length}
 use Rattle.lists.proofs.Conditions.{pick-true, pick-false}
 use Rattle.neighbor_page.specs.Page.{tooShort}
-use Rattle.node.specs.Looks.{finish}
 use Rattle.node.specs.Refusals.{refuse, bad}
 use Rattle.node.specs.Calls.{pageAnswer, pageLeft}
 use borrow.Author.Needs.{needs}
@@ -44,11 +43,8 @@ returns-2 c =
     let u : tooShort (length b) ≡ true = not-false _ (sym (w .ensures .0) ∙ not-true _ (c .before .if2 .taken)) in
     (c .refuse2 .ensures ∙ pick-true (tooShort (length b)) _ _ u ∙ pick-false (bad s) _ _ f, w .ensures .1 ∙ pick-false (bad s) b _ f)
 
-telling-requires : tie.Need-telling-requires
-telling-requires c κs = search needs
-
-decided-on-requires : tie.Need-decided-on-requires
-decided-on-requires c κs = search needs
+page-written-requires : tie.Need-page-written-requires
+page-written-requires c κs = search needs
 
 same-length-2 : tie.Need-same-length-2
 same-length-2 c = search needs
@@ -56,12 +52,12 @@ same-length-2 c = search needs
 returns-3 : tie.Need-returns-3
 unfolding pageAnswer pageLeft
 returns-3 c =
-    let s = c .before .before .before .before .before .before .before .before .before .before .args .self in
-    let b = c .before .before .before .before .before .before .before .before .before .before .args .page .now in
-    let w = c .before .before .before .before .before .write-page in
-    let f : bad s ≡ false = sym (c .before .before .before .before .before .before .before .before .is-bad .ensures) ∙ c .before .before .before .before .before .before .before .if1 .left in
-    let u : tooShort (length b) ≡ false = not-true _ (sym (w .ensures .0) ∙ not-false _ (c .before .before .if2 .left)) in
-    (c .decided-on .ensures ∙ ap (finish false s) (c .before .telling .ensures) ∙ pick-false (tooShort (length b)) (refuse 6 s) _ u ∙ pick-false (bad s) (refuse 5 s) _ f, w .ensures .1 ∙ pick-false (bad s) b _ f)
+    let s = c .before .before .before .before .before .before .before .before .before .args .self in
+    let b = c .before .before .before .before .before .before .before .before .before .args .page .now in
+    let w = c .before .before .before .before .write-page in
+    let f : bad s ≡ false = sym (c .before .before .before .before .before .before .before .is-bad .ensures) ∙ c .before .before .before .before .before .before .if1 .left in
+    let u : tooShort (length b) ≡ false = not-true _ (sym (w .ensures .0) ∙ not-false _ (c .before .if2 .left)) in
+    (c .page-written .ensures ∙ pick-false (tooShort (length b)) (refuse 6 s) _ u ∙ pick-false (bad s) (refuse 5 s) _ f, w .ensures .1 ∙ pick-false (bad s) b _ f)
 
 pub write-neighbor-page-spec : {M : Type 1} → statement M
 write-neighbor-page-spec =
@@ -74,7 +70,6 @@ write-neighbor-page-spec =
     refuse-requires-2
     same-length
     returns-2
-    telling-requires
-    decided-on-requires
+    page-written-requires
     same-length-2
     returns-3)

@@ -1,0 +1,16 @@
+-- `State::page_written` meets its contract. Assumes nothing.
+use borrow.Author.Needs.{needs}
+use Rattle.node.proofs.State.page_written.Statement.{statement}
+use Rattle.node.proofs.State.page_written.Tie as tie
+
+telling-requires : tie.Need-telling-requires
+telling-requires c κs = search needs
+
+decided-on-requires : tie.Need-decided-on-requires
+decided-on-requires c κs = search needs
+
+returns : tie.Need-returns
+returns c = rw (c .decided-on .ensures, c .before .telling .ensures)
+
+pub page-written-spec : {M : Type 1} → statement M
+page-written-spec = tie.close (tie.spec telling-requires decided-on-requires returns)
