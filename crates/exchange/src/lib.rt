@@ -86,7 +86,7 @@ fn via_parent(nlme: Nlme, sent: bool, parent: Neighbor) -> ViaParent
 }
 
 // The outcome of a data send.
-pub fn data_sent(control: Control, sent: bool, parent: Neighbor) -> Decision
+pub fn decide_send(control: Control, sent: bool, parent: Neighbor) -> Decision
     ensures { λ r. ⌜ r ≡ dataSent sent parent control ⌝ }
 {
     let via = via_parent(control.nlme, sent, parent);
@@ -95,7 +95,7 @@ pub fn data_sent(control: Control, sent: bool, parent: Neighbor) -> Decision
 }
 
 // A poll or a receive ends with an answer.
-pub fn poll_over(control: Control, answer: PollAnswer) -> Decision
+pub fn end_poll(control: Control, answer: PollAnswer) -> Decision
     ensures { λ r. ⌜ r ≡ pollOver answer control ⌝ }
 {
     operation::ending(control, Step::Polled(answer))
@@ -106,8 +106,8 @@ pub fn start_poll(control: Control, parent: Neighbor) -> Decision
     ensures { λ r. ⌜ r ≡ pollStarted parent control ⌝ }
 {
     match parent {
-        Neighbor::Absent => return poll_over(control, PollAnswer::PollNotJoined),
-        Neighbor::Entry(p) => return operation::poll(control, Purpose::SinglePoll, p),
+        Neighbor::Absent => return end_poll(control, PollAnswer::PollNotJoined),
+        Neighbor::Entry(p) => return operation::poll_parent(control, Purpose::SinglePoll, p),
     }
 }
 
@@ -152,7 +152,7 @@ fn with_signals(control: Control, signals: Signals) -> Control
 }
 
 // The leave indication is taken.
-pub fn leave_taken(control: Control) -> Decision
+pub fn take_leave(control: Control) -> Decision
     ensures { λ r. ⌜ r ≡ leaveTaken control ⌝ }
 {
     let signals = control.nlme.signals;
@@ -163,7 +163,7 @@ pub fn leave_taken(control: Control) -> Decision
 }
 
 // The status indication is taken.
-pub fn status_taken(control: Control) -> Decision
+pub fn take_status(control: Control) -> Decision
     ensures { λ r. ⌜ r ≡ statusTaken control ⌝ }
 {
     let signals = control.nlme.signals;

@@ -128,13 +128,18 @@ fn timeout_missing(control: Control, purpose: TimeoutFor, parent: Neighbor) -> D
             );
         }
         Neighbor::Entry(p) => {
-            return operation::poll(polling.control, Purpose::TimeoutResponse(purpose), p);
+            return operation::poll_parent(polling.control, Purpose::TimeoutResponse(purpose), p);
         }
     }
 }
 
 // A timeout response ends the polls, and its status decides.
-fn timeout_answered(control: Control, status: u8, purpose: TimeoutFor, parent: Neighbor) -> Decision
+fn decide_timeout_response(
+    control: Control,
+    status: u8,
+    purpose: TimeoutFor,
+    parent: Neighbor,
+) -> Decision
     ensures { λ r. ⌜ r ≡ cond (eqb status 0) (accepted purpose (noTimeoutResponse control)) (timeoutFailed NegotiationAnswer.NotNegotiated purpose parent (noTimeoutResponse control)) ⌝ }
 {
     let taken = no_timeout_response(control);
@@ -153,13 +158,13 @@ pub fn timeout_goes_on(control: Control, purpose: TimeoutFor, parent: Neighbor) 
     match slot {
         TimeoutResponseSlot::NoTimeoutResponse => return timeout_missing(control, purpose, parent),
         TimeoutResponseSlot::HasTimeoutResponse(response) => {
-            return timeout_answered(control, response.status, purpose, parent);
+            return decide_timeout_response(control, response.status, purpose, parent);
         }
     }
 }
 
 // The outcome of the request's send.
-pub fn timeout_request_sent(
+pub fn decide_timeout_request(
     control: Control,
     purpose: TimeoutFor,
     sent: bool,

@@ -47,8 +47,8 @@ fn associate_request(control: Control, entry: NwkNeighbor) -> RadioRequest
     })
 }
 
-// An entry is asked to associate; `clear` says whether the candidate tried before it is no longer a potential parent.
-fn associate(control: Control, clear: bool, entry: NwkNeighbor) -> Decision
+// An association with an entry is requested; `clear` says whether the candidate tried before it is no longer a potential parent.
+fn request_association(control: Control, clear: bool, entry: NwkNeighbor) -> Decision
     ensures { λ r. ⌜ r ≡ clearing clear (associating entry control) ⌝ }
 {
     let step = Step::Ask(associate_request(control, entry));
@@ -68,7 +68,7 @@ pub fn start_join(
         Neighbor::Absent => return crate::failing(begun, NlmeJoinStatus::NotPermitted),
         Neighbor::Entry(e) => {
             begun = crate::store_capabilities(begun, capability_information);
-            return associate(begun, false, e);
+            return request_association(begun, false, e);
         }
     }
 }
@@ -134,7 +134,7 @@ fn candidate_failed(control: Control, status: NlmeJoinStatus, next: Neighbor) ->
     let clear = clears(status);
     match next {
         Neighbor::Absent => return crate::failing_on(control, clear, status),
-        Neighbor::Entry(e) => return associate(control, clear, e),
+        Neighbor::Entry(e) => return request_association(control, clear, e),
     }
 }
 

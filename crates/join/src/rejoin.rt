@@ -120,7 +120,7 @@ fn ready(mut control: Control) -> Control
 }
 
 // A try begins: the request is sent to an entry.
-fn trying(mut control: Control, candidate: Move, note: Note, parent: NwkNeighbor) -> Decision
+fn start_try(mut control: Control, candidate: Move, note: Note, parent: NwkNeighbor) -> Decision
     ensures { λ r. ⌜ r ≡ trying candidate note parent control ⌝ }
 {
     let step = Step::Ask(rejoin_request(control, parent));
@@ -146,12 +146,12 @@ fn try_remembered(control: Control, parent: Neighbor) -> Decision
 {
     match parent {
         Neighbor::Absent => return scan_or_end(control, NlmeJoinStatus::InvalidRequest),
-        Neighbor::Entry(e) => return trying(control, Move::Stay, Note::NoNote, e),
+        Neighbor::Entry(e) => return start_try(control, Move::Stay, Note::NoNote, e),
     }
 }
 
 // The control part of a rejoin that begins.
-fn begun(mut control: Control, request: NlmeJoinRequest) -> Control
+fn begin_rejoin(mut control: Control, request: NlmeJoinRequest) -> Control
     ensures { λ r. ⌜ r ≡ begun request control ⌝ }
 {
     let operation = operation_for(control.nlme, request);
@@ -168,12 +168,12 @@ pub fn start_rejoin(mut control: Control, request: NlmeJoinRequest, parent: Neig
     if is_invalid(control.nlme, request) {
         return crate::failing(control, NlmeJoinStatus::InvalidRequest);
     }
-    control = begun(control, request);
+    control = begin_rejoin(control, request);
     try_remembered(control, parent)
 }
 
 // The control part once a candidate is the parent.
-fn adopting(mut control: Control, e: NwkNeighbor) -> Control
+fn adopt(mut control: Control, e: NwkNeighbor) -> Control
     ensures { λ r. ⌜ r ≡ adopting e control ⌝ }
 {
     let mut nlme = control.nlme;
@@ -195,8 +195,8 @@ pub fn try_next(mut control: Control, status: NlmeJoinStatus, next: Neighbor) ->
         Neighbor::Absent => return crate::failing(control, status),
         Neighbor::Entry(e) => {
             let note = Note::SetChannel(e.logical_channel);
-            control = adopting(control, e);
-            return trying(control, Move::AdoptNext, note, e);
+            control = adopt(control, e);
+            return start_try(control, Move::AdoptNext, note, e);
         }
     }
 }
@@ -229,7 +229,7 @@ fn end_rejoin(mut control: Control) -> Control
 }
 
 // The rejoin has succeeded.
-fn rejoined(mut control: Control, response: RejoinResponse) -> Decision
+fn finish_rejoin(mut control: Control, response: RejoinResponse) -> Decision
     ensures { λ r. ⌜ r ≡ rejoined response control ⌝ }
 {
     let network_address = response.network_address;
@@ -246,11 +246,11 @@ fn rejoined(mut control: Control, response: RejoinResponse) -> Decision
 }
 
 // The response ends the try.
-fn responded(control: Control, response: RejoinResponse, next: Neighbor) -> Decision
+fn decide_response(control: Control, response: RejoinResponse, next: Neighbor) -> Decision
     ensures { λ r. ⌜ r ≡ responded response next control ⌝ }
 {
     if response.status == 0 {
-        return rejoined(control, response);
+        return finish_rejoin(control, response);
     }
     try_failed(control, crate::failed_status(response.status), next)
 }
@@ -263,7 +263,11 @@ fn poll_again(control: Control, parent: Neighbor, next: Neighbor) -> Decision
     let asked = polling.parent;
     match asked {
         Neighbor::Absent => return try_failed(polling.control, NlmeJoinStatus::MacError, next),
-        Neighbor::Entry(e) => return operation::poll(polling.control, Purpose::RejoinResponse, e),
+        Neighbor::Entry(e) => return operation::poll_parent(
+            polling.control,
+            Purpose::RejoinResponse,
+            e,
+        ),
     }
 }
 
@@ -284,14 +288,14 @@ pub fn try_goes_on(mut control: Control, parent: Neighbor, next: Neighbor) -> De
     match slot {
         RejoinResponseSlot::HasRejoinResponse(response) => {
             control = response_taken(control);
-            return responded(control, response, next);
+            return decide_response(control, response, next);
         }
         RejoinResponseSlot::NoRejoinResponse => return poll_again(control, parent, next),
     }
 }
 
 // The rejoin request has been sent, or its send has failed.
-pub fn request_sent(control: Control, sent: bool, parent: Neighbor, next: Neighbor) -> Decision
+pub fn decide_request(control: Control, sent: bool, parent: Neighbor, next: Neighbor) -> Decision
     ensures { λ r. ⌜ r ≡ requestSent sent parent next control ⌝ }
 {
     if sent {

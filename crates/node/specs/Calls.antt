@@ -3,7 +3,6 @@ use Prim.Native.Nat.{ℕ}
 use mathlib.Core.Bool.{Bool, true, false, cond, not}
 use mathlib.Core.List.{List, [], map}
 use lib.Dec.{eqb, ltb}
-use lib.ListN.{length}
 use Rattle.nib.specs.Neighbors.{tableOf}
 use Rattle.nib.specs.declared.CapabilityInformation.{CapabilityInformation}
 use Rattle.nib.specs.declared.Neighbor.{Neighbor}
@@ -26,7 +25,7 @@ use Rattle.nlme.specs.Received.{taught, handled, leaveAnnounced}
 use Rattle.nlme.specs.declared.received.TableChange.{TableChange}
 use Rattle.nlme.specs.declared.received.Then.{Then}
 use Rattle.nlme.specs.declared.received.Handled.{Handled}
-use Rattle.operation.specs.Operation.{withNlme, scanFor, associationFor, transmissionFor, receptionFor, isDiscovered, telling, asking, announcing, ending}
+use Rattle.operation.specs.Operation.{withNlme, scanFor, associationFor, transmissionFor, receptionFor, isDiscovered, telling, asking, announcingLeave, ending}
 use Rattle.operation.specs.declared.TimeoutFor.{TimeoutFor}
 use Rattle.operation.specs.declared.Purpose.{Purpose}
 use Rattle.operation.specs.declared.ScanFor.{ScanFor}
@@ -130,7 +129,7 @@ tableChanged (TableChange.RemoveNeighbor a) s = withTable (tableOf (retained (a 
 -- a frame is dealt with: the poll goes on, or a leave is announced first
 unfoldable pub after : Purpose → Then → State → Answer
 after u (Then.Over a) s = goOn false u a s
-after u (Then.Announce a) s = deciding s (announcing u a (s .control))
+after u (Then.Announce a) s = deciding s (announcingLeave u a (s .control))
 
 abbrev pub handledOn : Purpose → Handled → State → Answer
 handledOn u h s = after u (h .then) (tableChanged (h .change) (withNode (h .nlme) s))

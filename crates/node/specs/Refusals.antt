@@ -1,6 +1,6 @@
 -- When a call is turned down (01, "When a call is turned down"). "State and lent buffers then stay as handed in."
 use Prim.Native.Nat.{ℕ}
-use mathlib.Core.Bool.{Bool, true, false, cond, _&&_, _||_}
+use mathlib.Core.Bool.{Bool, false, cond, _||_}
 use lib.Dec.{ltb}
 use Rattle.candidates.specs.Tries.{pastTable}
 use Rattle.candidates.specs.declared.tries.Candidates.{Candidates}

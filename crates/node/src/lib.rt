@@ -1,13 +1,13 @@
 // A node's state, and every call that can be made on it.
 ghost use mathlib.Core.Path.{_≡_};
-ghost use mathlib.Core.Bool.{true, false, cond, not};
+ghost use mathlib.Core.Bool.{false, cond, not};
 ghost use Rattle.operation.specs.Operation.{isIdle, associationFor, telling, ending};
 ghost use Rattle.join.specs.Join.{failing};
 ghost use Rattle.join.specs.Rejoin.{requestSent};
 ghost use Rattle.exchange.specs.Exchange.{dataSent, timeoutRequestSent};
 ghost use Rattle.node.specs.Looks.{parent, tried, next, deciding};
 ghost use Rattle.node.specs.Refusals.{refuse, pastIn, badBy, bad};
-ghost use Rattle.node.specs.Calls.{joinBy, associate, withChosen, rejoinAmong, scanFailed, scanHeard, scanOver, confirmBy, scanned, continuing, goOn, tableChanged, after, handledOn, taughtOn, processed, receptionOver, afterLeave, transmissionOver, answer, choose, pageAnswer, pageLeft, discovery, join, send, poll, receive, timeout, scan, association, transmission, reception, elapsed, takeLeave, takeStatus};
+ghost use Rattle.node.specs.Calls.{joinBy, associate, withChosen, rejoinAmong, scanFailed, scanHeard, scanOver, confirmBy, scanned, continuing, goOn, tableChanged, after, handledOn, taughtOn, processed, afterLeave, transmissionOver, answer, choose, pageAnswer, pageLeft, discovery, join, send, poll, receive, timeout, scan, association, transmission, reception, elapsed, takeLeave, takeStatus};
 ghost use Rattle.discovery.specs.Mlme.{descriptorsOf};
 ghost use lib.ListN.{length};
 use candidates::CandidateList;
@@ -511,7 +511,7 @@ impl State {
         }
     }
 
-    fn dealt_with(mut self, purpose: Purpose, handled: Handled) -> Answer
+    fn deal_with(mut self, purpose: Purpose, handled: Handled) -> Answer
         ensures { λ r. ⌜ r ≡ handledOn purpose handled self ⌝ }
     {
         self.control = operation::with_nlme(self.control, handled.nlme);
@@ -534,7 +534,7 @@ impl State {
             broadcast,
             frame,
         );
-        self.dealt_with(purpose, handled)
+        self.deal_with(purpose, handled)
     }
 
     pub fn reception_over(self, outcome: ReceptionOutcome) -> Answer
@@ -570,8 +570,8 @@ fn continuing(
 {
     match purpose {
         Purpose::RejoinResponse => return rejoin::try_goes_on(control, parent, next),
-        Purpose::SinglePoll => return exchange::poll_over(control, answer),
-        Purpose::SingleReceive => return exchange::poll_over(control, answer),
+        Purpose::SinglePoll => return exchange::end_poll(control, answer),
+        Purpose::SingleReceive => return exchange::end_poll(control, answer),
         Purpose::TimeoutResponse(timeout) => {
             return negotiation::timeout_goes_on(control, timeout, parent);
         }
@@ -609,25 +609,25 @@ impl State {
     {
         let parent = self.parent();
         let next = self.next();
-        self.decided_on(rejoin::request_sent(self.control, sent, parent, next))
+        self.decided_on(rejoin::decide_request(self.control, sent, parent, next))
     }
 
     fn after_data(self, sent: bool) -> Answer
         ensures { λ r. ⌜ r ≡ deciding self (dataSent sent (parent self) (self .control)) ⌝ }
     {
         let parent = self.parent();
-        self.decided_on(exchange::data_sent(self.control, sent, parent))
+        self.decided_on(exchange::decide_send(self.control, sent, parent))
     }
 
     fn after_timeout_request(self, purpose: TimeoutFor, sent: bool) -> Answer
         ensures { λ r. ⌜ r ≡ deciding self (timeoutRequestSent purpose sent (parent self) (self .control)) ⌝ }
     {
         let parent = self.parent();
-        self.decided_on(negotiation::timeout_request_sent(self.control, purpose, sent, parent))
+        self.decided_on(negotiation::decide_timeout_request(self.control, purpose, sent, parent))
     }
 
     // By what the transmission was for.
-    fn transmitted(self, purpose: TransmissionFor, sent: bool) -> Answer
+    fn decide_transmission(self, purpose: TransmissionFor, sent: bool) -> Answer
         ensures { λ r. ⌜ r ≡ transmissionOver sent purpose self ⌝ }
     {
         match purpose {
@@ -651,7 +651,7 @@ impl State {
         let Phase::Transmission(purpose) = phase else {
             return self.refuse(2);
         };
-        self.transmitted(purpose, sent)
+        self.decide_transmission(purpose, sent)
     }
 }
 
@@ -673,7 +673,7 @@ impl State {
         if self.is_bad() {
             return self.refuse(5);
         }
-        self.decided_on(exchange::leave_taken(self.control))
+        self.decided_on(exchange::take_leave(self.control))
     }
 
     pub fn take_nwk_status_indication(self) -> Answer
@@ -682,7 +682,7 @@ impl State {
         if self.is_bad() {
             return self.refuse(5);
         }
-        self.decided_on(exchange::status_taken(self.control))
+        self.decided_on(exchange::take_status(self.control))
     }
 
     pub fn select_candidates(
@@ -713,7 +713,7 @@ impl State {
 
 // The neighbour page.
 impl State {
-    fn page_written(self) -> Answer
+    fn tell_page_written(self) -> Answer
         ensures { λ r. ⌜ r ≡ deciding self (telling Step.PageWritten (self .control)) ⌝ }
     {
         self.decided_on(operation::telling(self.control, Step::PageWritten))
@@ -730,6 +730,6 @@ impl State {
         if !neighbor_page::write_page(page, self.table) {
             return self.refuse(6);
         }
-        self.page_written()
+        self.tell_page_written()
     }
 }

@@ -123,8 +123,8 @@ abbrev pub asking : Phase → RadioRequest → Control → Decision
 asking p r c = telling (Step.Ask r) (inPhase p c)
 
 -- the announcement of a leave that a poll has brought: what the poll was for goes on afterwards
-abbrev pub announcing : Purpose → LeaveAnnouncement → Control → Decision
-announcing u a c =
+abbrev pub announcingLeave : Purpose → LeaveAnnouncement → Control → Decision
+announcingLeave u a c =
     asking (Phase.Transmission (TransmissionFor.Leave (record { purpose = u; rejoin = a .rejoin }))) (RadioRequest.Transmit (a .transmission)) c
 
 -- the operation is over, with its answer

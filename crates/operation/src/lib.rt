@@ -1,6 +1,6 @@
 // The operation under way, requests to the radio, and what a decision says.
 ghost use mathlib.Core.Path.{_≡_};
-ghost use Rattle.operation.specs.Operation.{withNlme, withPollsLeft, inPhase, isIdle, decided, telling, asking, announcing, ending, polled, polling, isDiscovered};
+ghost use Rattle.operation.specs.Operation.{withNlme, withPollsLeft, inPhase, isIdle, decided, telling, asking, announcingLeave, ending, polled, polling, isDiscovered};
 ghost use Rattle.operation.specs.declared.RadioRequest.the-variants.{Transmit};
 use discovery::mlme::MacCapabilityInformation;
 use management::KeepaliveAnswer;
@@ -252,7 +252,7 @@ pub fn scan(control: Control, purpose: ScanFor, range: ScanRange) -> Decision
 
 // The announcement of a leave that a poll has brought. What the poll was for goes on afterwards.
 pub fn announce(control: Control, purpose: Purpose, announcement: LeaveAnnouncement) -> Decision
-    ensures { λ r. ⌜ r ≡ announcing purpose announcement control ⌝ }
+    ensures { λ r. ⌜ r ≡ announcingLeave purpose announcement control ⌝ }
 {
     let leaving = Leaving {
         purpose,
@@ -263,7 +263,7 @@ pub fn announce(control: Control, purpose: Purpose, announcement: LeaveAnnouncem
 }
 
 // A poll of the parent, for a purpose: the only step that uses a poll.
-pub fn poll(control: Control, purpose: Purpose, parent: NwkNeighbor) -> Decision
+pub fn poll_parent(control: Control, purpose: Purpose, parent: NwkNeighbor) -> Decision
     ensures { λ r. ⌜ r ≡ polled purpose parent control ⌝ }
 {
     let pan_id = control.nlme.nib.panid;

@@ -1,9 +1,7 @@
 // A trace's lines, taken one by one: what stands between two of them, and what a line says of the node.
 ghost use mathlib.Core.Path.{_≡_};
-ghost use mathlib.Core.List.{[]};
 ghost use Prim.Native.Nat.{_-_};
 ghost use Rattle.nib.specs.Neighbors.{pushed};
-ghost use Rattle.discovery.specs.Discovery.{confirmOf};
 ghost use Rattle.node.specs.Looks.{withTable};
 ghost use Rattle.trace_calls.specs.TraceCalls.{noNode, ownPart, idle, begun, withPair, withPairs, unheard, withBeacon, before, setUp, saying, nothing, told, withNetworks, scanAfter, chosen, kindOf, hasRoom, hasNode, isBeacon, mayCome, fitsAt, taken};
 ghost use Rattle.trace_calls.specs.Private.{stateAfter, scanSoFar, answer, called};

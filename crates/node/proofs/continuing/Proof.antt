@@ -17,22 +17,22 @@ returns c = rw (c .before .enum-told .given .1) (c .try-goes-on .ensures)
 enum-told-2 : tie.Need-enum-told-2
 enum-told-2 c = search needs
 
-poll-over-requires : tie.Need-poll-over-requires
-poll-over-requires c κs = search needs
+end-poll-requires : tie.Need-end-poll-requires
+end-poll-requires c κs = search needs
 
 returns-2 : tie.Need-returns-2
 unfolding continuing
-returns-2 c = rw (c .before .enum-told2 .given .1) (c .poll-over .ensures)
+returns-2 c = rw (c .before .enum-told2 .given .1) (c .end-poll .ensures)
 
 enum-told-3 : tie.Need-enum-told-3
 enum-told-3 c = search needs
 
-poll-over-requires-2 : tie.Need-poll-over-requires-2
-poll-over-requires-2 c κs = search needs
+end-poll-requires-2 : tie.Need-end-poll-requires-2
+end-poll-requires-2 c κs = search needs
 
 returns-3 : tie.Need-returns-3
 unfolding continuing
-returns-3 c = rw (c .before .enum-told3 .given .1) (c .poll-over2 .ensures)
+returns-3 c = rw (c .before .enum-told3 .given .1) (c .end-poll2 .ensures)
 
 enum-known-purpose : tie.Need-enum-known-purpose
 enum-known-purpose c = search needs
@@ -45,4 +45,4 @@ unfolding continuing
 returns-4 c = rw (c .before .before .purpose .given .1) (c .timeout-goes-on .ensures)
 
 pub continuing-spec : {M : Type 1} → statement M
-continuing-spec = tie.close (tie.spec enum-told try-goes-on-requires returns enum-told-2 poll-over-requires returns-2 enum-told-3 poll-over-requires-2 returns-3 enum-known-purpose timeout-goes-on-requires returns-4)
+continuing-spec = tie.close (tie.spec enum-told try-goes-on-requires returns enum-told-2 end-poll-requires returns-2 enum-told-3 end-poll-requires-2 returns-3 enum-known-purpose timeout-goes-on-requires returns-4)

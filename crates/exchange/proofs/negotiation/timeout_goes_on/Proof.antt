@@ -21,14 +21,14 @@ returns c =
 enum-known-slot : tie.Need-enum-known-slot
 enum-known-slot c = search needs
 
-timeout-answered-requires : tie.Need-timeout-answered-requires
-timeout-answered-requires c κs = search needs
+decide-timeout-response-requires : tie.Need-decide-timeout-response-requires
+decide-timeout-response-requires c κs = search needs
 
 returns-2 : tie.Need-returns-2
 unfolding timeoutAnsweredBy
 returns-2 c =
     let a = c .before .before .before .before .before .args in
-    rw (c .timeout-answered .ensures) (sym (ap (λ (x : TimeoutResponseSlot). timeoutAnsweredBy x (a .purpose) (a .parent) (a .control)) (c .before .before .slot .given .1)))
+    rw (c .decide-timeout-response .ensures) (sym (ap (λ (x : TimeoutResponseSlot). timeoutAnsweredBy x (a .purpose) (a .parent) (a .control)) (c .before .before .slot .given .1)))
 
 pub timeout-goes-on-spec : {M : Type 1} → statement M
-timeout-goes-on-spec = tie.close (tie.spec enum-told timeout-missing-requires returns enum-known-slot timeout-answered-requires returns-2)
+timeout-goes-on-spec = tie.close (tie.spec enum-told timeout-missing-requires returns enum-known-slot decide-timeout-response-requires returns-2)

@@ -24,14 +24,14 @@ returns c =
 enum-known-next : tie.Need-enum-known-next
 enum-known-next c = search needs
 
-associate-requires : tie.Need-associate-requires
-associate-requires c κs = search needs
+request-association-requires : tie.Need-request-association-requires
+request-association-requires c κs = search needs
 
 returns-2 : tie.Need-returns-2
 unfolding candidateFailed
 returns-2 c =
     let a = c .before .before .before .before .before .args in
-    rw (c .associate .ensures, c .before .before .before .before .clears .ensures) (sym (ap (λ (x : Neighbor). candidateFailed (a .status) x (a .control)) (c .before .before .next .given .1)))
+    rw (c .request-association .ensures, c .before .before .before .before .clears .ensures) (sym (ap (λ (x : Neighbor). candidateFailed (a .status) x (a .control)) (c .before .before .next .given .1)))
 
 pub candidate-failed-spec : {M : Type 1} → statement M
 candidate-failed-spec =
@@ -42,5 +42,5 @@ candidate-failed-spec =
     failing-on-requires
     returns
     enum-known-next
-    associate-requires
+    request-association-requires
     returns-2)

@@ -27,14 +27,14 @@ enum-known-next c = search needs
 store-capabilities-requires : tie.Need-store-capabilities-requires
 store-capabilities-requires c κs = search needs
 
-associate-requires : tie.Need-associate-requires
-associate-requires c κs = search needs
+request-association-requires : tie.Need-request-association-requires
+request-association-requires c κs = search needs
 
 returns-2 : tie.Need-returns-2
 unfolding joinStarted associating
 returns-2 c =
     let a = c .before .before .before .before .before .before .args in
-    rw (c .associate .ensures, c .before .store-capabilities .ensures, c .before .before .before .before .before .reset-negotiation .ensures) (sym (ap (λ (x : Neighbor). joinStarted (a .capability-information) x (a .control)) (c .before .before .before .next .given .1)))
+    rw (c .request-association .ensures, c .before .store-capabilities .ensures, c .before .before .before .before .before .reset-negotiation .ensures) (sym (ap (λ (x : Neighbor). joinStarted (a .capability-information) x (a .control)) (c .before .before .before .next .given .1)))
 
 pub start-join-spec : {M : Type 1} → statement M
 start-join-spec =
@@ -46,5 +46,5 @@ start-join-spec =
     returns
     enum-known-next
     store-capabilities-requires
-    associate-requires
+    request-association-requires
     returns-2)

@@ -18,8 +18,8 @@ returns c =
     let a = c .before .before .before .args in
     c .failing .ensures ∙ pick-true (invalid (a .request) (a .control .nlme)) _ _ (sym (c .before .before .is-invalid .ensures) ∙ c .before .if1 .taken)
 
-begun-requires : tie.Need-begun-requires
-begun-requires c κs = search needs
+begin-rejoin-requires : tie.Need-begin-rejoin-requires
+begin-rejoin-requires c κs = search needs
 
 try-remembered-requires : tie.Need-try-remembered-requires
 try-remembered-requires c κs = search needs
@@ -28,7 +28,7 @@ returns-2 : tie.Need-returns-2
 unfolding rejoinStarted
 returns-2 c =
     let a = c .before .before .before .before .args in
-    c .try-remembered .ensures ∙ ap (tryRemembered (a .parent)) (c .before .begun .ensures)
+    c .try-remembered .ensures ∙ ap (tryRemembered (a .parent)) (c .before .begin-rejoin .ensures)
     ∙ pick-false (invalid (a .request) (a .control .nlme)) _ _ (sym (c .before .before .before .is-invalid .ensures) ∙ c .before .before .if1 .left)
 
 pub start-rejoin-spec : {M : Type 1} → statement M
@@ -38,6 +38,6 @@ start-rejoin-spec =
     is-invalid-requires
     failing-requires
     returns
-    begun-requires
+    begin-rejoin-requires
     try-remembered-requires
     returns-2)

@@ -12,15 +12,15 @@ enum-known-slot c = search needs
 response-taken-requires : tie.Need-response-taken-requires
 response-taken-requires c κs = search needs
 
-responded-requires : tie.Need-responded-requires
-responded-requires c κs = search needs
+decide-response-requires : tie.Need-decide-response-requires
+decide-response-requires c κs = search needs
 
 returns : tie.Need-returns
 unfolding answeredBy
 returns c =
     let a = c .before .before .before .before .before .before .args in
     let s = c .before .before .before .slot .given in
-    c .responded .ensures ∙ ap (responded (s .0 .0) (a .next)) (c .before .response-taken .ensures)
+    c .decide-response .ensures ∙ ap (responded (s .0 .0) (a .next)) (c .before .response-taken .ensures)
     ∙ sym (ap (λ (x : RejoinResponseSlot). answeredBy x (a .parent) (a .next) (a .control)) (s .1))
 
 enum-told : tie.Need-enum-told
@@ -41,7 +41,7 @@ try-goes-on-spec =
     (tie.spec
     enum-known-slot
     response-taken-requires
-    responded-requires
+    decide-response-requires
     returns
     enum-told
     poll-again-requires

@@ -19,17 +19,17 @@ returns c = c .failing .ensures ∙ sym (ap (λ (x : Neighbor). tryNext (c .befo
 enum-known-next : tie.Need-enum-known-next
 enum-known-next c = search needs
 
-adopting-requires : tie.Need-adopting-requires
-adopting-requires c κs = search needs
+adopt-requires : tie.Need-adopt-requires
+adopt-requires c κs = search needs
 
-trying-requires : tie.Need-trying-requires
-trying-requires c κs = search needs
+start-try-requires : tie.Need-start-try-requires
+start-try-requires c κs = search needs
 
 returns-2 : tie.Need-returns-2
 unfolding tryNext tryCandidate
 returns-2 c =
     let a = c .before .before .before .before .before .args in
-    rw (c .trying .ensures, c .before .adopting .ensures) (sym (ap (λ (x : Neighbor). tryNext (a .status) x (a .control)) (c .before .before .before .next .given .1)))
+    rw (c .start-try .ensures, c .before .adopt .ensures) (sym (ap (λ (x : Neighbor). tryNext (a .status) x (a .control)) (c .before .before .before .next .given .1)))
 
 pub try-next-spec : {M : Type 1} → statement M
 try-next-spec =
@@ -39,6 +39,6 @@ try-next-spec =
     failing-requires
     returns
     enum-known-next
-    adopting-requires
-    trying-requires
+    adopt-requires
+    start-try-requires
     returns-2)

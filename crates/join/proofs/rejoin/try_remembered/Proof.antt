@@ -19,14 +19,14 @@ returns c = c .scan-or-end .ensures ∙ sym (ap (λ (x : Neighbor). tryRemembere
 enum-known-parent : tie.Need-enum-known-parent
 enum-known-parent c = search needs
 
-trying-requires : tie.Need-trying-requires
-trying-requires c κs = search needs
+start-try-requires : tie.Need-start-try-requires
+start-try-requires c κs = search needs
 
 returns-2 : tie.Need-returns-2
 unfolding tryRemembered
-returns-2 c = c .trying .ensures ∙ sym (ap (λ (x : Neighbor). tryRemembered x (c .before .before .before .before .args .control)) (c .before .before .parent .given .1))
+returns-2 c = c .start-try .ensures ∙ sym (ap (λ (x : Neighbor). tryRemembered x (c .before .before .before .before .args .control)) (c .before .before .parent .given .1))
 
 pub try-remembered-spec : {M : Type 1} → statement M
 try-remembered-spec =
     tie.close
-    (tie.spec enum-told scan-or-end-requires returns enum-known-parent trying-requires returns-2)
+    (tie.spec enum-told scan-or-end-requires returns enum-known-parent start-try-requires returns-2)

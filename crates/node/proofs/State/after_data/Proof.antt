@@ -6,14 +6,14 @@ use Rattle.node.proofs.State.after_data.Tie as tie
 parent-requires : tie.Need-parent-requires
 parent-requires c κs = search needs
 
-data-sent-requires : tie.Need-data-sent-requires
-data-sent-requires c κs = search needs
+decide-send-requires : tie.Need-decide-send-requires
+decide-send-requires c κs = search needs
 
 decided-on-requires : tie.Need-decided-on-requires
 decided-on-requires c κs = search needs
 
 returns : tie.Need-returns
-returns c = rw (c .decided-on .ensures, c .before .data-sent .ensures, c .before .before .parent .ensures)
+returns c = rw (c .decided-on .ensures, c .before .decide-send .ensures, c .before .before .parent .ensures)
 
 pub after-data-spec : {M : Type 1} → statement M
-after-data-spec = tie.close (tie.spec parent-requires data-sent-requires decided-on-requires returns)
+after-data-spec = tie.close (tie.spec parent-requires decide-send-requires decided-on-requires returns)

@@ -9,14 +9,14 @@ parent-requires c κs = search needs
 next-requires : tie.Need-next-requires
 next-requires c κs = search needs
 
-request-sent-requires : tie.Need-request-sent-requires
-request-sent-requires c κs = search needs
+decide-request-requires : tie.Need-decide-request-requires
+decide-request-requires c κs = search needs
 
 decided-on-requires : tie.Need-decided-on-requires
 decided-on-requires c κs = search needs
 
 returns : tie.Need-returns
-returns c = rw (c .decided-on .ensures, c .before .request-sent .ensures, c .before .before .next .ensures, c .before .before .before .parent .ensures)
+returns c = rw (c .decided-on .ensures, c .before .decide-request .ensures, c .before .before .next .ensures, c .before .before .before .parent .ensures)
 
 pub after-rejoin-request-spec : {M : Type 1} → statement M
-after-rejoin-request-spec = tie.close (tie.spec parent-requires next-requires request-sent-requires decided-on-requires returns)
+after-rejoin-request-spec = tie.close (tie.spec parent-requires next-requires decide-request-requires decided-on-requires returns)

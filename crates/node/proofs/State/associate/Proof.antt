@@ -1,5 +1,4 @@
 -- `State::associate` meets its contract. Assumes nothing.
-use mathlib.Core.Path.{_∙_}
 use lib.Dec.{eqb}
 use borrow.Author.Tests.{eq-eqb, ne-eqb}
 use Rattle.lists.proofs.Conditions.{pick-true, pick-false}

@@ -2,8 +2,6 @@
 use mathlib.Core.Path.{ap, _∙_}
 use mathlib.Core.Bool.{Bool, not}
 use Rattle.management.specs.declared.PollAnswer.{PollAnswer}
-use Rattle.operation.specs.declared.Decision.{Decision}
-use Rattle.node.specs.declared.State.{State}
 use Rattle.node.specs.declared.Answer.{Answer}
 use Rattle.node.specs.Looks.{finish}
 use Rattle.node.specs.Calls.{goOn}

@@ -15,11 +15,11 @@ neighbor-ieee-address-requires c κs = search needs
 process-received-nwk-frame-requires : tie.Need-process-received-nwk-frame-requires
 process-received-nwk-frame-requires c κs = search needs
 
-dealt-with-requires : tie.Need-dealt-with-requires
-dealt-with-requires c κs = search needs
+deal-with-requires : tie.Need-deal-with-requires
+deal-with-requires c κs = search needs
 
 returns : tie.Need-returns
-returns c = rw (c .dealt-with .ensures, c .before .process-received-nwk-frame .ensures, c .before .before .neighbor-ieee-address .ensures, c .before .before .before .parent .ensures, c .before .before .before .before .learn-neighbor .ensures)
+returns c = rw (c .deal-with .ensures, c .before .process-received-nwk-frame .ensures, c .before .before .neighbor-ieee-address .ensures, c .before .before .before .parent .ensures, c .before .before .before .before .learn-neighbor .ensures)
 
 pub frame-received-spec : {M : Type 1} → statement M
-frame-received-spec = tie.close (tie.spec learn-neighbor-requires parent-requires neighbor-ieee-address-requires process-received-nwk-frame-requires dealt-with-requires returns)
+frame-received-spec = tie.close (tie.spec learn-neighbor-requires parent-requires neighbor-ieee-address-requires process-received-nwk-frame-requires deal-with-requires returns)

@@ -17,15 +17,15 @@ returns : tie.Need-returns
 unfolding answer
 returns c = c .refuse .ensures ∙ pick-true (bad (c .before .before .before .args .self)) _ _ (sym (c .before .before .is-bad .ensures) ∙ c .before .if1 .taken)
 
-status-taken-requires : tie.Need-status-taken-requires
-status-taken-requires c κs = search needs
+take-status-requires : tie.Need-take-status-requires
+take-status-requires c κs = search needs
 
 decided-on-requires : tie.Need-decided-on-requires
 decided-on-requires c κs = search needs
 
 returns-2 : tie.Need-returns-2
 unfolding answer
-returns-2 c = rw (c .decided-on .ensures, c .before .status-taken .ensures) (pick-false (bad (c .before .before .before .before .args .self)) _ _ (sym (c .before .before .before .is-bad .ensures) ∙ c .before .before .if1 .left))
+returns-2 c = rw (c .decided-on .ensures, c .before .take-status .ensures) (pick-false (bad (c .before .before .before .before .args .self)) _ _ (sym (c .before .before .before .is-bad .ensures) ∙ c .before .before .if1 .left))
 
 pub take-nwk-status-indication-spec : {M : Type 1} → statement M
-take-nwk-status-indication-spec = tie.close (tie.spec is-bad-requires refuse-requires returns status-taken-requires decided-on-requires returns-2)
+take-nwk-status-indication-spec = tie.close (tie.spec is-bad-requires refuse-requires returns take-status-requires decided-on-requires returns-2)

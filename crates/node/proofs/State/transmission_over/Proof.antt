@@ -30,12 +30,12 @@ returns-2 : tie.Need-returns-2
 unfolding answer
 returns-2 c = c .refuse2 .ensures ∙ no-transmission (c .before .before .before .before .before .args .self .control .operation .phase) _ _ (c .before .match .keys2) ∙ pick-false (bad (c .before .before .before .before .before .args .self)) _ _ (sym (c .before .before .before .before .is-bad .ensures) ∙ c .before .before .before .if1 .left)
 
-transmitted-requires : tie.Need-transmitted-requires
-transmitted-requires c κs = search needs
+decide-transmission-requires : tie.Need-decide-transmission-requires
+decide-transmission-requires c κs = search needs
 
 returns-3 : tie.Need-returns-3
 unfolding answer outcome
-returns-3 c = c .transmitted .ensures ∙ (sym (ap (λ (p : Phase). outcome (transmissionFor p) (transmissionOver (c .before .before .before .before .before .before .before .args .sent)) (c .before .before .before .before .before .before .before .args .self)) (c .before .before .phase .given .1)) ∙ pick-false (bad (c .before .before .before .before .before .before .before .args .self)) _ _ (sym (c .before .before .before .before .before .before .is-bad .ensures) ∙ c .before .before .before .before .before .if1 .left))
+returns-3 c = c .decide-transmission .ensures ∙ (sym (ap (λ (p : Phase). outcome (transmissionFor p) (transmissionOver (c .before .before .before .before .before .before .before .args .sent)) (c .before .before .before .before .before .before .before .args .self)) (c .before .before .phase .given .1)) ∙ pick-false (bad (c .before .before .before .before .before .before .before .args .self)) _ _ (sym (c .before .before .before .before .before .before .is-bad .ensures) ∙ c .before .before .before .before .before .if1 .left))
 
 pub transmission-over-spec : {M : Type 1} → statement M
-transmission-over-spec = tie.close (tie.spec is-bad-requires refuse-requires returns enum-known-phase refuse-requires-2 returns-2 transmitted-requires returns-3)
+transmission-over-spec = tie.close (tie.spec is-bad-requires refuse-requires returns enum-known-phase refuse-requires-2 returns-2 decide-transmission-requires returns-3)

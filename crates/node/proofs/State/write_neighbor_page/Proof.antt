@@ -43,8 +43,8 @@ returns-2 c =
     let u : tooShort (length b) ≡ true = not-false _ (sym (w .ensures .0) ∙ not-true _ (c .before .if2 .taken)) in
     (c .refuse2 .ensures ∙ pick-true (tooShort (length b)) _ _ u ∙ pick-false (bad s) _ _ f, w .ensures .1 ∙ pick-false (bad s) b _ f)
 
-page-written-requires : tie.Need-page-written-requires
-page-written-requires c κs = search needs
+tell-page-written-requires : tie.Need-tell-page-written-requires
+tell-page-written-requires c κs = search needs
 
 same-length-2 : tie.Need-same-length-2
 same-length-2 c = search needs
@@ -57,7 +57,7 @@ returns-3 c =
     let w = c .before .before .before .before .write-page in
     let f : bad s ≡ false = sym (c .before .before .before .before .before .before .before .is-bad .ensures) ∙ c .before .before .before .before .before .before .if1 .left in
     let u : tooShort (length b) ≡ false = not-true _ (sym (w .ensures .0) ∙ not-false _ (c .before .if2 .left)) in
-    (c .page-written .ensures ∙ pick-false (tooShort (length b)) (refuse 6 s) _ u ∙ pick-false (bad s) (refuse 5 s) _ f, w .ensures .1 ∙ pick-false (bad s) b _ f)
+    (c .tell-page-written .ensures ∙ pick-false (tooShort (length b)) (refuse 6 s) _ u ∙ pick-false (bad s) (refuse 5 s) _ f, w .ensures .1 ∙ pick-false (bad s) b _ f)
 
 pub write-neighbor-page-spec : {M : Type 1} → statement M
 write-neighbor-page-spec =
@@ -70,6 +70,6 @@ write-neighbor-page-spec =
     refuse-requires-2
     same-length
     returns-2
-    page-written-requires
+    tell-page-written-requires
     same-length-2
     returns-3)
