@@ -1,4 +1,14 @@
-// A node's state, and every call that can be made on it.
+// A node's state, and every call that can be made on it: what an engineer who builds on this reads first.
+//
+// A call takes the state by value and answers the next one; nothing is asked of the caller. A start (`start_discovery`, `join`, `send_data`, `poll`, `receive`,
+// `negotiate_end_device_timeout`, `send_timeout_request_keepalive`) answers a request to the radio, or at once what came of it. The outcome of each request is
+// handed back by the call of its kind (`scan_over`, `association_over`, `transmission_over`, `reception_over`), which answers the next request, or what the
+// operation came to. One operation is under way at a time. Ticks, takings, the choice of candidates and the neighbour page may come between any two calls.
+//
+// A call that is turned down answers the number of its refusal, and the state and every lent buffer as they were handed in: 1 an operation is under way; 2 no
+// request awaits that outcome; 3 a scan with more than 27 descriptors; 4 one with more than 16 short-addressed ones; 5 a state that no calls lead to (a count
+// above 16, more than 20 polls left, an association with an index past the table); 6 a page for fewer than 816 bytes. Of several the first in the order 5, 1,
+// 2, 3, 4, 6 is given.
 ghost use mathlib.Core.Path.{_≡_};
 ghost use mathlib.Core.Bool.{false, cond, not};
 ghost use Rattle.operation.specs.Operation.{isIdle, associationFor, telling, ending};
@@ -55,17 +65,26 @@ const MAX_SHORT_ADDRESSED: usize = MAX_NEIGBOUR_TABLE as usize;
 
 // The state of a node.
 pub struct State {
+    // the node itself, and the operation under way
     pub control: Control,
+    // the neighbours, as the last scan and the frames since then have told of them
     pub table: NeighborTable,
+    // the candidates of the join or rejoin under way
     pub candidates: Candidates,
 }
 
-// What a call answers: the next state; the reset note of a leave (01, "Received frame"); what the radio is told; the request, confirm, answer or refusal; and the polls that the step used.
+// What a call answers.
 pub struct Answer {
+    // the state for the next call
     pub state: State,
+    // the device has left its network: what its owner keeps beside this state (routes, groups, keys, counters, address map) is to be reset (01, "Received
+    // frame")
     pub reset: bool,
+    // what the radio is told first, without an outcome
     pub note: Note,
+    // the request to the radio, the confirm or answer that ends the operation, or the refusal
     pub step: Step,
+    // 1 where the step is a poll, else 0
     pub polls_used: u8,
 }
 
@@ -240,6 +259,7 @@ impl State {
 
 // Starts.
 impl State {
+    // Starts a discovery of the networks on a range of channels: `Ask(Scan)`. `scan_over` then answers `Discovered` with the confirm, or `DiscoveryFailed`.
     pub fn start_discovery(self, range: ScanRange) -> Answer
         ensures { λ r. ⌜ r ≡ answer self (discovery range) ⌝ }
     {
@@ -293,6 +313,9 @@ impl State {
         }
     }
 
+    // Starts a join or a rejoin, as the request says: `Ask(Associate)`, `Ask(Transmit)` or `Ask(Scan)`, or `Joined` at once where it can't be begun. Each
+    // outcome brings the next request, until `Joined` says what came of it. A join chooses among the neighbours of the last discovery; a rejoin asks the
+    // remembered parent first, and scans by itself.
     pub fn join(self, request: NlmeJoinRequest) -> Answer
         ensures { λ r. ⌜ r ≡ answer self (join request) ⌝ }
     {
@@ -303,6 +326,7 @@ impl State {
         self.join_by(request)
     }
 
+    // Starts the send of a data frame by way of the parent: `Ask(Transmit)` with its header, then `Sent`. With no parent it is `Sent(SendNotJoined)` at once.
     pub fn send_data(self, destination: ShortAddress, secure: bool) -> Answer
         ensures { λ r. ⌜ r ≡ answer self (send destination secure) ⌝ }
     {
@@ -315,6 +339,7 @@ impl State {
         self.decided_on(decision)
     }
 
+    // Polls the parent once: `Ask(Poll)`, then `Polled`. With no parent it is `Polled(PollNotJoined)` at once.
     pub fn poll(self) -> Answer
         ensures { λ r. ⌜ r ≡ answer self poll ⌝ }
     {
@@ -326,6 +351,7 @@ impl State {
         self.decided_on(exchange::start_poll(self.control, parent))
     }
 
+    // Receives one frame without a poll: `Ask(Receive)`, then `Polled`.
     pub fn receive(self) -> Answer
         ensures { λ r. ⌜ r ≡ answer self receive ⌝ }
     {
@@ -349,12 +375,14 @@ impl State {
         self.decided_on(decision)
     }
 
+    // Asks the parent for the timeout that the attributes name: `Ask(Transmit)`, at most 3 times `Ask(Poll)`, then `NegotiationOver`.
     pub fn negotiate_end_device_timeout(self) -> Answer
         ensures { λ r. ⌜ r ≡ answer self (timeout TimeoutFor.Negotiation) ⌝ }
     {
         self.start_timeout(TimeoutFor::Negotiation)
     }
 
+    // The same as a keepalive, which ends with `KeepaliveOver`: one that fails, for whatever reason, signals ParentLinkFailure.
     pub fn send_timeout_request_keepalive(self) -> Answer
         ensures { λ r. ⌜ r ≡ answer self (timeout TimeoutFor.Keepalive) ⌝ }
     {
@@ -437,6 +465,8 @@ impl State {
         self.scan_listed(purpose, outcome)
     }
 
+    // The outcome of a scan: a discovery is over, a rejoin goes on. Above 27 descriptors it is turned down by 3, above 16 short-addressed ones by 4; then the
+    // radio's outcome is still awaited.
     pub fn scan_over(self, outcome: ScanOutcome) -> ScanAnswer
         ensures { λ r. ⌜ r ≡ scanned outcome self ⌝ }
     {
@@ -459,6 +489,7 @@ fn confirm_by(step: Step, list: PanDescriptorList) -> NlmeNetworkDiscoveryConfir
 
 // The outcomes of an association, and of a poll or a receive.
 impl State {
+    // The outcome of an association: `Joined`, or the next candidate is asked.
     pub fn association_over(self, outcome: AssociationOutcome) -> Answer
         ensures { λ r. ⌜ r ≡ answer self (association outcome) ⌝ }
     {
@@ -537,6 +568,8 @@ impl State {
         self.deal_with(purpose, handled)
     }
 
+    // The outcome of a poll or a receive, with the frame that it brought. What it was for goes on; an accepted leave request is announced first
+    // (`Ask(Transmit)`).
     pub fn reception_over(self, outcome: ReceptionOutcome) -> Answer
         ensures { λ r. ⌜ r ≡ answer self (reception outcome) ⌝ }
     {
@@ -640,6 +673,7 @@ impl State {
         }
     }
 
+    // The outcome of a transmission: whether the frame was sent. What it was for goes on.
     pub fn transmission_over(self, sent: bool) -> Answer
         ensures { λ r. ⌜ r ≡ answer self (transmission sent) ⌝ }
     {
@@ -657,6 +691,8 @@ impl State {
 
 // The tick, the takings and the choice of candidates.
 impl State {
+    // So many milliseconds have passed since the last tick: `Expired(true)` where the parent's timer has just reached 0, which signals ParentLinkFailure, else
+    // `Expired(false)`. 0 counts as 1. A timer interrupt that keeps the timer in a record of its own uses `lent_tick::tick_lent`.
     pub fn tick_parent_timeout(self, elapsed_ms: u32) -> Answer
         ensures { λ r. ⌜ r ≡ answer self (elapsed «elapsed_ms») ⌝ }
     {
@@ -667,6 +703,7 @@ impl State {
         self.decided_on(exchange::decide_tick(self.control, parent, elapsed_ms))
     }
 
+    // Takes the leave indication out of its slot: `LeaveTaken` with it, or with none.
     pub fn take_leave_indication(self) -> Answer
         ensures { λ r. ⌜ r ≡ answer self takeLeave ⌝ }
     {
@@ -676,6 +713,7 @@ impl State {
         self.decided_on(exchange::take_leave(self.control))
     }
 
+    // Takes the status indication out of its slot: `StatusTaken` with it, or with none. Its only status is ParentLinkFailure.
     pub fn take_nwk_status_indication(self) -> Answer
         ensures { λ r. ⌜ r ≡ answer self takeStatus ⌝ }
     {
@@ -685,6 +723,8 @@ impl State {
         self.decided_on(exchange::take_status(self.control))
     }
 
+    // The candidates that a join (`require_permit_joining`) or a rejoin of a network would try now, in order. The state is not changed; refusal 5 has an empty
+    // list.
     pub fn select_candidates(
         self,
         extended_pan_id: ExtendedPanId,
@@ -719,8 +759,8 @@ impl State {
         self.decided_on(operation::telling(self.control, Step::PageWritten))
     }
 
-    // Writes the neighbour table as text for the depot screen, 17 rows of 47 characters, each with a line feed, at the start of a lent buffer: `PageWritten`, with the state as
-    // handed in. Refusal 6 for a buffer shorter than 816 bytes; after a refusal no byte of it has changed, and those past 816 never do.
+    // Writes the neighbour table as text for the depot screen, 17 rows of 47 characters, each with a line feed, at the start of a lent buffer: `PageWritten`,
+    // with the state as handed in. Refusal 6 for a buffer shorter than 816 bytes; after a refusal no byte of it has changed, and those past 816 never do.
     pub fn write_neighbor_page(self, page: &mut [u8]) -> Answer
         ensures { λ r. ⌜ (r ≡ pageAnswer (length (now (page .entry))) self) × (now (page .exit) ≡ pageLeft (now (page .entry)) self) ⌝ }
     {
