@@ -1,6 +1,8 @@
 // Writes numbers in decimal, and says which of them the toolchain's own writer, which divides, writes otherwise.
 // The numbers are 0 to 100,000, each power of ten with the number before and behind it, and 4,294,967,295.
-use libc::STDOUT_FILENO;
+#![tactic(auto)]
+
+const NAME: [u8; 8] = *b"decimals";
 
 // Above 100,000: the powers of ten, each with the number before and behind it, and the greatest number of 32 bits.
 const NUMBERS: [u32; 14] = [
@@ -21,7 +23,7 @@ const NUMBERS: [u32; 14] = [
 ];
 
 // How many numbers were written, and how many of them otherwise than by division.
-#[derive(Drop)]
+#[derive(Clone, Copy)]
 struct Tally {
     written: u32,
     otherwise: u32,
@@ -45,12 +47,10 @@ fn expected_at(digits: &[u8], width: usize, i: usize) -> u8 {
 
 // Whether these bytes are the expected ones.
 fn is_expected(bytes: &[u8], digits: &[u8], width: usize) -> bool {
-    let mut i = 0;
-    while i < bytes.len() {
-        if bytes[i] != expected_at(digits, width, i) {
+    for (i, byte) in bytes.iter().enumerate() {
+        if *byte != expected_at(digits, width, i) {
             return false;
         }
-        i += 1;
     }
     true
 }
@@ -86,47 +86,54 @@ fn is_alike(n: u32) -> bool {
     is_right(n, &digits[..count], 3)
 }
 
+// Prints a number as by division, on a line of its own.
+fn print_divided(rt: &HostRuntime, n: u32) {
+    let mut digits = [0u8; 20];
+    let count = io::decimal(n as u64, &mut digits);
+    filter::write(rt, &NAME, &digits[..count]);
+    filter::write(rt, &NAME, b"\n");
+}
+
 // Writes a number; one that is written otherwise is printed as by division.
-fn tried(tally: Tally, n: u32) -> Tally {
+fn tried(rt: &HostRuntime, tally: Tally, n: u32) -> Tally {
     let mut next = tally;
-    next.written = std::num::wrapping_add_u32(next.written, 1);
+    next.written = next.written.wrapping_add(1);
     if !is_alike(n) {
-        io::print_decimal(STDOUT_FILENO, n as u64);
-        io::write_all(STDOUT_FILENO, b"\n");
-        next.otherwise = std::num::wrapping_add_u32(next.otherwise, 1);
+        print_divided(rt, n);
+        next.otherwise = next.otherwise.wrapping_add(1);
     }
     next
 }
 
-fn up_to_100_000(begun: Tally) -> Tally {
+fn up_to_100_000(rt: &HostRuntime, begun: Tally) -> Tally {
     let mut tally = begun;
     for n in 0..100_001 {
-        tally = tried(tally, n);
+        tally = tried(rt, tally, n);
     }
     tally
 }
 
-fn listed(begun: Tally) -> Tally {
+fn listed(rt: &HostRuntime, begun: Tally) -> Tally {
     let mut tally = begun;
-    for k in 0..14 {
-        tally = tried(tally, NUMBERS[k]);
+    for n in NUMBERS {
+        tally = tried(rt, tally, n);
     }
     tally
 }
 
-fn print(tally: Tally) {
+fn print(rt: &HostRuntime, tally: Tally) {
     let mut line = [b' '; 48];
     text::write_decimal_right(&mut line, 0, tally.written, 10);
     text::write(&mut line, 10, b" numbers, written otherwise");
     text::write_decimal_right(&mut line, 37, tally.otherwise, 10);
     line[47] = b'\n';
-    io::write_all(STDOUT_FILENO, &line);
+    filter::write(rt, &NAME, &line);
 }
 
-fn main() {
+fn main(rt: HostRuntime) {
     let none = Tally {
         written: 0,
         otherwise: 0,
     };
-    print(listed(up_to_100_000(none)));
+    print(&rt, listed(&rt, up_to_100_000(&rt, none)));
 }

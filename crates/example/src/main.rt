@@ -1,5 +1,7 @@
 // The way to use the library: a plug looks for networks, joins, sends, loses its parent and rejoins. A scripted radio stands in for a real one.
 // An owner starts an operation, has the radio carry out what the node asks, and hands each outcome back, until the node says what came of it (`settle`).
+#![tactic(auto)]
+
 use discovery::mlme::{
     Address, MAX_PAN_DESCRIPTOR_SIZE, PanDescriptor, PanDescriptorList, StackProfile,
     SuperframeSpecification, ZigbeeBeacon,
@@ -132,107 +134,107 @@ fn carry_out(answer: Answer, near_is_on: bool) -> Answer {
 
 // What is printed; each answers whether it could be written.
 
-fn say(text: &[u8]) -> bool {
-    filter::write(b"example", text)
+fn say(rt: &HostRuntime, text: &[u8]) -> bool {
+    filter::write(rt, b"example", text)
 }
 
-fn say_of(text: &[u8], address: ShortAddress) -> bool {
+fn say_of(rt: &HostRuntime, text: &[u8], address: ShortAddress) -> bool {
     let mut digits = [0u8; 4];
     text::write_hex(&mut digits, 0, address.0 as u64, 4);
-    if !say(text) {
+    if !say(rt, text) {
         return false;
     }
-    if !say(&digits) {
+    if !say(rt, &digits) {
         return false;
     }
-    say(b"\n")
+    say(rt, b"\n")
 }
 
-fn tell_request(request: RadioRequest) -> bool {
+fn tell_request(rt: &HostRuntime, request: RadioRequest) -> bool {
     match request {
-        RadioRequest::Scan(_) => return say(b"  radio: scan\n"),
-        RadioRequest::Associate(a) => return say_of(b"  radio: associate with ", a.address),
-        RadioRequest::Transmit(t) => return say_of(b"  radio: transmit to ", t.address),
-        RadioRequest::Poll(_, router) => return say_of(b"  radio: poll ", router),
-        RadioRequest::Receive => return say(b"  radio: receive\n"),
+        RadioRequest::Scan(_) => return say(rt, b"  radio: scan\n"),
+        RadioRequest::Associate(a) => return say_of(rt, b"  radio: associate with ", a.address),
+        RadioRequest::Transmit(t) => return say_of(rt, b"  radio: transmit to ", t.address),
+        RadioRequest::Poll(_, router) => return say_of(rt, b"  radio: poll ", router),
+        RadioRequest::Receive => return say(rt, b"  radio: receive\n"),
     }
 }
 
-fn tell_joined(confirm: NlmeJoinConfirm) -> bool {
+fn tell_joined(rt: &HostRuntime, confirm: NlmeJoinConfirm) -> bool {
     let status = confirm.status;
     match status {
-        NlmeJoinStatus::Success => return say_of(b"  joined as ", confirm.network_address),
-        _ => return say(b"  not joined\n"),
+        NlmeJoinStatus::Success => return say_of(rt, b"  joined as ", confirm.network_address),
+        _ => return say(rt, b"  not joined\n"),
     }
 }
 
-fn tell_sent(answer: SendAnswer) -> bool {
+fn tell_sent(rt: &HostRuntime, answer: SendAnswer) -> bool {
     match answer {
-        SendAnswer::SendOk => return say(b"  sent\n"),
+        SendAnswer::SendOk => return say(rt, b"  sent\n"),
         SendAnswer::SendParentLinkFailure => return say(
+            rt,
             b"  not sent: the link to the parent has failed\n",
         ),
-        _ => return say(b"  not sent\n"),
+        _ => return say(rt, b"  not sent\n"),
     }
 }
 
-fn tell_status(slot: StatusIndicationSlot) -> bool {
+fn tell_status(rt: &HostRuntime, slot: StatusIndicationSlot) -> bool {
     match slot {
-        StatusIndicationSlot::NoStatusIndication => return say(b"  nothing\n"),
+        StatusIndicationSlot::NoStatusIndication => return say(rt, b"  nothing\n"),
         StatusIndicationSlot::HasStatusIndication(indication) => {
-            return say_of(b"  the parent is lost: ", indication.network_address);
+            return say_of(rt, b"  the parent is lost: ", indication.network_address);
         }
     }
 }
 
-fn tell_step(step: Step) -> bool {
+fn tell_step(rt: &HostRuntime, step: Step) -> bool {
     match step {
-        Step::Refused(_) => return say(b"  turned down\n"),
-        Step::Ask(request) => return tell_request(request),
-        Step::Discovered => return say(b"  networks were heard\n"),
-        Step::Joined(confirm) => return tell_joined(confirm),
-        Step::Sent(answer) => return tell_sent(answer),
-        Step::StatusTaken(slot) => return tell_status(slot),
-        _ => return say(b"  something that this plug does not ask for\n"),
+        Step::Refused(_) => return say(rt, b"  turned down\n"),
+        Step::Ask(request) => return tell_request(rt, request),
+        Step::Discovered => return say(rt, b"  networks were heard\n"),
+        Step::Joined(confirm) => return tell_joined(rt, confirm),
+        Step::Sent(answer) => return tell_sent(rt, answer),
+        Step::StatusTaken(slot) => return tell_status(rt, slot),
+        _ => return say(rt, b"  something that this plug does not ask for\n"),
     }
 }
 
 // An owner who keeps more than this state (routes, groups, keys) resets that where `answer.reset` says so: the device has left its network for good.
 
 // The note, which the radio obeys before it is asked; then the request, or what the operation came to.
-fn tell(note: Note, step: Step) -> bool {
+fn tell(rt: &HostRuntime, note: Note, step: Step) -> bool {
     match note {
-        Note::NoNote => return tell_step(step),
+        Note::NoNote => return tell_step(rt, step),
         Note::SetChannel(_) => {
-            if !say(b"  radio: set channel\n") {
+            if !say(rt, b"  radio: set channel\n") {
                 return false;
             }
-            return tell_step(step);
+            return tell_step(rt, step);
         }
         Note::SetAddress(own) => {
-            if !say_of(b"  radio: set address ", own) {
+            if !say_of(rt, b"  radio: set address ", own) {
                 return false;
             }
-            return tell_step(step);
+            return tell_step(rt, step);
         }
     }
 }
 
 // The state after an operation, and whether all that was said of it could be written.
-#[derive(Drop)]
+#[derive(Clone, Copy)]
 struct Settled {
     state: State,
     written: bool,
 }
 
 // Carries requests out until the operation has come to its end.
-fn settle(first: Answer, near_is_on: bool) -> Settled {
+fn settle(rt: &HostRuntime, first: Answer, near_is_on: bool) -> Settled {
     let mut answer = first;
-    let mut turns = u64::MAX;
-    while turns > 0 {
+    for _ in 0..u64::MAX {
         let note = answer.note;
         let step = answer.step;
-        if !tell(note, step) {
+        if !tell(rt, note, step) {
             break;
         }
         let Step::Ask(_) = step else {
@@ -243,7 +245,6 @@ fn settle(first: Answer, near_is_on: bool) -> Settled {
             };
         };
         answer = carry_out(answer, near_is_on);
-        turns -= 1;
     }
     let state = answer.state;
     Settled {
@@ -282,14 +283,14 @@ fn blank() -> State {
 // off.
 const DAY: [u8; 10] = *b"djs-ssstrs";
 
-fn name(letter: u8) -> bool {
+fn name(rt: &HostRuntime, letter: u8) -> bool {
     match letter {
-        b'd' => return say(b"discovery\n"),
-        b'j' => return say(b"join\n"),
-        b's' => return say(b"send\n"),
-        b't' => return say(b"status\n"),
-        b'r' => return say(b"rejoin\n"),
-        _ => return say(b"the near router is switched off\n"),
+        b'd' => return say(rt, b"discovery\n"),
+        b'j' => return say(rt, b"join\n"),
+        b's' => return say(rt, b"send\n"),
+        b't' => return say(rt, b"status\n"),
+        b'r' => return say(rt, b"rejoin\n"),
+        _ => return say(rt, b"the near router is switched off\n"),
     }
 }
 
@@ -304,33 +305,31 @@ fn start(state: State, letter: u8) -> Answer {
 }
 
 // Goes through the day.
-fn live(mut state: State) {
+fn live(rt: &HostRuntime, mut state: State) {
     let mut near_is_on = true;
-    let mut i: usize = 0;
-    while i < 10 {
-        let letter = DAY[i];
-        if !name(letter) {
+    for letter in DAY {
+        if !name(rt, letter) {
             return;
         }
         if letter == b'-' {
             near_is_on = false;
         } else {
-            let settled = settle(start(state, letter), near_is_on);
+            let settled = settle(rt, start(state, letter), near_is_on);
             if !settled.written {
                 return;
             }
             let next = settled.state;
             state = next;
         }
-        i += 1;
     }
 }
 
 // Prints the usage if there is an argument, and answers whether it did.
-fn usage_printed() -> bool {
+fn usage_printed(rt: &HostRuntime) -> bool {
     filter::print_usage(
+        rt,
         b"example",
-        os::arg_count(),
+        filter::word_count(rt),
         b"Usage: example\n\
         \n\
         Shows how the library is used: a plug joins, loses its parent and rejoins over\n\
@@ -343,9 +342,9 @@ fn usage_printed() -> bool {
     )
 }
 
-fn main() {
-    if usage_printed() {
+fn main(rt: HostRuntime) {
+    if usage_printed(&rt) {
         return;
     }
-    live(blank());
+    live(&rt, blank());
 }

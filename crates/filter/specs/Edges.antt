@@ -1,6 +1,5 @@
 -- What can be said of a program's edges. Which bytes are read, and whether a write fails, is the system's.
-use Rattle.std.specs.Prelude.{ℕ, ◌≡◌, Bool, true, List, ltb, length}
-use Rattle.io.specs.Counts.{IsPrefixLen}
+use Rattle.std.specs.Prelude.{ℕ, ◌≡◌, ◌≤◌, Bool, true, List, ltb, length, take}
 use Rattle.filter.specs.declared.Input.{Input}
 
 -- a program has an argument: the first of the words that it was started with is its own name
@@ -11,7 +10,11 @@ has_argument words = ltb 1 words
 abbrev pub Written : List ℕ → Bool → Type 0
 Written bytes r = length bytes ≡ 0 → r ≡ true
 
+-- the buffer has so many bytes, and so its first ones are as many
+abbrev pub Counts : ℕ → List ℕ → Type 0
+Counts n buf = (n ≤ length buf) × (n ≡ length (take n buf))
+
 -- the bytes that were read lie within the buffer
 abbrev pub Within : Input → List ℕ → Type 0
-Within (Input.Bytes n) buf = IsPrefixLen n buf
+Within (Input.Bytes n) buf = Counts n buf
 Within Input.Failed buf = Unit {0}

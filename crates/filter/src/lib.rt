@@ -1,88 +1,141 @@
 // What every program does at its edges: an argument asks for the usage, standard input is read, standard output is written. What fails is told of on standard
-// error, as PROGRAM: standard input: REASON.
-ghost use Rattle.std.specs.Prelude.{◌≡◌};
+// error, as PROGRAM: standard input: REASON. `rt` is the system, as `main` is given it.
+#![tactic(auto)]
+
+ghost use Rattle.std.specs.Prelude.{◌≡◌, ◌≤◌};
+ghost use Rattle.std.specs.Io.{ReadsAtMost};
 ghost use Rattle.filter.specs.Edges.{has_argument, Written, Within};
 
-use libc::{STDERR_FILENO, STDIN_FILENO, STDOUT_FILENO};
+use std::env::{Env, FillError};
+use std::fmt::Display;
+use std::io;
+use std::io::{ErrorKind, Read};
 
 // What was read: so many bytes at the start of the buffer, none where the input is over; or the read failed, and was told of.
-#[derive(Drop)]
+#[derive(Clone, Copy)]
 pub enum Input {
     Bytes(usize),
     Failed,
 }
 
-// Tells why the call just made failed on one of the program's edges.
-fn tell(program: &[u8], edge: &[u8]) {
-    io::write_all(STDERR_FILENO, program);
-    io::write_all(STDERR_FILENO, b": ");
-    os::fail(edge);
+// What an error's text says in words: the system's errors have their number in brackets behind it.
+fn in_words(text: &str) -> &str {
+    match text.split_once(" (os error ") {
+        Some((words, _)) => words,
+        None => text,
+    }
 }
 
-// Writes all of these bytes to standard output, and answers whether they were written.
-pub fn write(program: &[u8], bytes: &[u8]) -> bool
+// The line on standard error.
+fn say<R: Eprint, D: Display + Drop>(rt: &R, program: &[u8], edge: &str, reason: D) {
+    let name = program.escape_ascii();
+    let _ = eprintln!(rt; "{name}: {edge}: {reason}");
+}
+
+// Tells why a call failed on one of the program's edges.
+fn tell<R: Eprint + Alloc>(rt: &R, program: &[u8], edge: &str, error: io::Error) {
+    match error.to_string(rt.alloc()) {
+        Ok(text) => say(rt, program, edge, in_words(text.as_str())),
+        Err(_) => say(rt, program, edge, error),
+    }
+}
+
+// Writes all of these bytes to standard output, and answers whether they were written. Of a pipe that nobody reads any more nothing is told.
+pub fn write<R: Print + Eprint + Alloc>(rt: &R, program: &[u8], bytes: &[u8]) -> bool
     ensures { Written bytes.now result }
 {
     if bytes.len() == 0 {
         return true;
     }
-    if io::write_all(STDOUT_FILENO, bytes) {
-        return true;
+    match rt.write_all(bytes) {
+        Ok(()) => true,
+        Err(error) => {
+            if error.kind() != ErrorKind::BrokenPipe {
+                tell(rt, program, "standard output", error);
+            }
+            false
+        }
     }
-    tell(program, b"standard output");
-    false
+}
+
+// Whether the program was started with a word at this place; at 0 stands its own name.
+fn has_word<R: Env>(rt: &R, i: usize) -> bool {
+    match rt.arg(i, &mut [0u8; 1]) {
+        Err(FillError::NotPresent) => false,
+        _ => true,
+    }
+}
+
+// How many words the program was started with: its own name, and its arguments.
+pub fn word_count<R: Env>(rt: &R) -> usize
+    ensures { 1 ≤ result }
+{
+    for i in 1..usize::MAX {
+        if !has_word(rt, i) {
+            return i;
+        }
+    }
+    usize::MAX
 }
 
 // Prints the usage if the program has an argument, and answers whether it has: then there is nothing to read. The first of the words that it was started with
-// (`os::arg_count`) is its own name.
-pub fn print_usage(program: &[u8], words: usize, usage: &[u8]) -> bool
+// (`word_count`) is its own name.
+pub fn print_usage<R: Print + Eprint + Alloc>(
+    rt: &R,
+    program: &[u8],
+    words: usize,
+    usage: &[u8],
+) -> bool
     ensures { result ≡ has_argument words }
 {
     if words <= 1 {
         return false;
     }
-    write(program, usage);
+    write(rt, program, usage);
     true
 }
 
 // Whether a read that gave this was interrupted before a byte came.
-fn is_interrupted(got: isize) -> bool {
-    if got >= 0 {
-        return false;
+fn is_interrupted(got: &io::Result<usize>) -> bool {
+    match got {
+        Ok(_) => false,
+        Err(error) => error.kind() == ErrorKind::Interrupted,
     }
-    os::errno() == libc::EINTR
 }
 
-// A read of standard input; one that was interrupted is made again. A proved loop has to end: this one counts down from a number that no run uses up.
-fn read_once(buf: &mut [u8]) -> isize {
-    let mut got = libc::read(STDIN_FILENO, buf);
-    let mut turns = u64::MAX;
-    while turns > 0 && is_interrupted(got) {
-        got = libc::read(STDIN_FILENO, buf);
-        turns -= 1;
+// A read; one that was interrupted is made again. A proved loop has to end: this one has more turns than any run uses up.
+fn read_once<I: Read>(input: &mut I, buf: &mut [u8]) -> io::Result<usize>
+    ensures { ReadsAtMost result buf.new }
+{
+    for _ in 0..u64::MAX {
+        let got = input.read(buf);
+        if !is_interrupted(&got) {
+            return got;
+        }
     }
-    got
+    input.read(buf)
 }
 
 // Reads what there is on standard input, once there is some.
-pub fn read(program: &[u8], buf: &mut [u8]) -> Input
+pub fn read<R: io::Input + Eprint + Alloc>(rt: &R, program: &[u8], buf: &mut [u8]) -> Input
     ensures { Within result buf.new }
 {
-    let got = read_once(buf);
-    if got < 0 {
-        tell(program, b"standard input");
-        return Input::Failed;
+    match read_once(&mut rt.reader(), buf) {
+        Ok(n) => Input::Bytes(n),
+        Err(error) => {
+            tell(rt, program, "standard input", error);
+            Input::Failed
+        }
     }
-    Input::Bytes(io::count(got, buf))
 }
 
 // Reads standard input until the buffer is full or the input is over.
-pub fn read_full(program: &[u8], buf: &mut [u8]) -> Input
+pub fn read_full<R: io::Input + Eprint + Alloc>(rt: &R, program: &[u8], buf: &mut [u8]) -> Input
     ensures { Within result buf.new }
 {
     let mut done: usize = 0;
     while done < buf.len() {
-        let Input::Bytes(n) = read(program, &mut buf[done..]) else {
+        let Input::Bytes(n) = read(rt, program, &mut buf[done..]) else {
             return Input::Failed;
         };
         if n == 0 {
@@ -91,4 +144,74 @@ pub fn read_full(program: &[u8], buf: &mut [u8]) -> Input
         done += n;
     }
     Input::Bytes(done)
+}
+
+#[cfg(test)]
+mod tests {
+    use super::*;
+    use std::test::Fail;
+
+    // An input that is interrupted so many times, and then has a byte, time and again.
+    #[derive(Drop)]
+    struct Interrupted {
+        times: u8,
+    }
+
+    impl Read for Interrupted {
+        fn read(&mut self, buf: &mut [u8]) -> io::Result<usize> {
+            if self.times > 0 {
+                self.times -= 1;
+                return Err(io::Error::from(ErrorKind::Interrupted));
+            }
+            if buf.is_empty() {
+                return Ok(0);
+            }
+            buf[0] = b'x';
+            Ok(1)
+        }
+    }
+
+    // An input that can't be read, and how often this was tried.
+    #[derive(Drop)]
+    struct Failing {
+        tries: u8,
+    }
+
+    impl Read for Failing {
+        fn read(&mut self, _buf: &mut [u8]) -> io::Result<usize> {
+            self.tries = self.tries.saturating_add(1);
+            Err(io::Error::from_raw_os_error(21))
+        }
+    }
+
+    #[test]
+    fn an_interrupted_read_is_made_again(rt: HostRuntime) -> Result<(), Fail> {
+        let mut buf = [0u8; 4];
+        let n = read_once(&mut Interrupted { times: 3 }, &mut buf)?;
+        assert_eq!(rt; n, 1);
+        assert_eq!(rt; buf, [b'x', 0, 0, 0]);
+        Ok(())
+    }
+
+    #[test]
+    fn a_read_that_fails_is_made_once(rt: HostRuntime) -> Result<(), Fail> {
+        let mut buf = [0u8; 4];
+        let mut input = Failing { tries: 0 };
+        let kind = match read_once(&mut input, &mut buf) {
+            Ok(_) => None,
+            Err(error) => Some(error.kind()),
+        };
+        assert_eq!(rt; kind, Some(ErrorKind::IsADirectory));
+        assert_eq!(rt; input.tries, 1);
+        Ok(())
+    }
+
+    #[test]
+    fn an_error_is_told_of_in_words(rt: HostRuntime) -> Result<(), Fail> {
+        let error = io::Error::from_raw_os_error(28);
+        let text = error.to_string(rt.alloc())?;
+        assert_eq!(rt; in_words(text.as_str()), "No space left on device");
+        assert_eq!(rt; in_words("out of memory"), "out of memory");
+        Ok(())
+    }
 }

@@ -1,10 +1,12 @@
 // Lines out of an input that comes in pieces of any size. A line is the bytes up to a line feed. A program lends a buffer, in which the bytes of one line are
 // kept until it is ended: as many of them as there is room for.
+#![tactic(auto)]
+
 ghost use Rattle.std.specs.Prelude.{◌≡◌, ◌+◌, min, length};
 ghost use Rattle.pieces.specs.Pieces.{line_taken, line_after, Usable};
 
 // What was taken of a piece: the place behind it, how many bytes of the line are kept now, and whether the line is ended.
-#[derive(Drop)]
+#[derive(Clone, Copy)]
 pub struct Taken {
     pub at: usize,
     pub kept: usize,

@@ -1,14 +1,17 @@
 // Prints, for every byte, its link cost as an LQI, its capability bits, its timeout in seconds and milliseconds as an index, and what it means as the status of
 // an association.
+#![tactic(auto)]
+
 use management::NlmeJoinStatus;
 use nib::CapabilityInformation;
 use supervision::OptionalPeriod;
 
 // Prints the usage if there is an argument, and answers whether it did.
-fn usage_printed() -> bool {
+fn usage_printed(rt: &HostRuntime) -> bool {
     filter::print_usage(
+        rt,
         b"tables",
-        os::arg_count(),
+        filter::word_count(rt),
         b"Usage: tables\n\
         \n\
         It reads nothing, and prints the published tables: a header, then a line for\n\
@@ -25,88 +28,94 @@ fn usage_printed() -> bool {
 }
 
 // Prints on, unless something could not be printed, and answers whether all could. So do the functions below.
-fn put(going: bool, bytes: &[u8]) -> bool {
+fn put(rt: &HostRuntime, going: bool, bytes: &[u8]) -> bool {
     if !going {
         return false;
     }
-    filter::write(b"tables", bytes)
+    filter::write(rt, b"tables", bytes)
 }
 
-fn print(going: bool, n: u32) -> bool {
+fn print(rt: &HostRuntime, going: bool, n: u32) -> bool {
     let mut digits = [0u8; 10];
     let count = text::write_decimal(&mut digits, 0, n);
-    put(going, &digits[..count])
+    put(rt, going, &digits[..count])
 }
 
-fn number(going: bool, n: u8) -> bool {
-    print(put(going, b"\t"), n as u32)
+fn number(rt: &HostRuntime, going: bool, n: u8) -> bool {
+    print(rt, put(rt, going, b"\t"), n as u32)
 }
 
-fn flag(going: bool, b: bool) -> bool {
+fn flag(rt: &HostRuntime, going: bool, b: bool) -> bool {
     if b {
-        return number(going, 1);
+        return number(rt, going, 1);
     }
-    number(going, 0)
+    number(rt, going, 0)
 }
 
-fn period(going: bool, p: OptionalPeriod) -> bool {
+fn period(rt: &HostRuntime, going: bool, p: OptionalPeriod) -> bool {
     match p {
         OptionalPeriod::NoPeriod => {
-            return put(going, b"\t-");
+            return put(rt, going, b"\t-");
         }
         OptionalPeriod::Period(n) => {
-            return print(put(going, b"\t"), n);
+            return print(rt, put(rt, going, b"\t"), n);
         }
     }
 }
 
-fn association(going: bool, status: u8) -> bool {
+fn association(rt: &HostRuntime, going: bool, status: u8) -> bool {
     if status == 0 {
-        return put(going, b"\tSuccess");
+        return put(rt, going, b"\tSuccess");
     }
     match join::failed_status(status) {
         NlmeJoinStatus::PanAtCapacity => {
-            return put(going, b"\tPanAtCapacity");
+            return put(rt, going, b"\tPanAtCapacity");
         }
         NlmeJoinStatus::PanAccessDenied => {
-            return put(going, b"\tPanAccessDenied");
+            return put(rt, going, b"\tPanAccessDenied");
         }
         NlmeJoinStatus::MacError => {
-            return put(going, b"\tMacError");
+            return put(rt, going, b"\tMacError");
         }
         _ => {
-            return put(going, b"\tanother");
+            return put(rt, going, b"\tanother");
         }
     }
 }
 
-fn row(begun: bool, byte: u8) -> bool {
-    let mut going = print(begun, byte as u32);
-    going = number(going, nib::link_cost_from_lqi(byte));
-    going = flag(going, CapabilityInformation(byte).device_type());
-    going = flag(going, CapabilityInformation(byte).power_source());
-    going = flag(going, CapabilityInformation(byte).receiver_on_when_idle());
-    going = flag(going, CapabilityInformation(byte).security_capability());
-    going = flag(going, CapabilityInformation(byte).allocate_address());
-    going = period(going, supervision::timeout_seconds(byte));
-    going = period(going, supervision::negotiated_timeout_ms(byte));
-    going = association(going, byte);
-    put(going, b"\n")
+fn row(rt: &HostRuntime, begun: bool, byte: u8) -> bool {
+    let mut going = print(rt, begun, byte as u32);
+    going = number(rt, going, nib::link_cost_from_lqi(byte));
+    going = flag(rt, going, CapabilityInformation(byte).device_type());
+    going = flag(rt, going, CapabilityInformation(byte).power_source());
+    going = flag(
+        rt,
+        going,
+        CapabilityInformation(byte).receiver_on_when_idle(),
+    );
+    going = flag(rt, going, CapabilityInformation(byte).security_capability());
+    going = flag(rt, going, CapabilityInformation(byte).allocate_address());
+    going = period(rt, going, supervision::timeout_seconds(byte));
+    going = period(rt, going, supervision::negotiated_timeout_ms(byte));
+    going = association(rt, going, byte);
+    put(rt, going, b"\n")
 }
 
-fn rows(begun: bool) {
+fn rows(rt: &HostRuntime, begun: bool) {
     let mut going = begun;
     for byte in 0..=255 {
-        going = row(going, byte);
+        going = row(rt, going, byte);
     }
 }
 
-fn main() {
-    if usage_printed() {
+fn main(rt: HostRuntime) {
+    if usage_printed(&rt) {
         return;
     }
-    rows(put(
+    let begun = put(
+        &rt,
         true,
         b"byte\tcost\trouter\tmains\treceiver\tsecurity\tallocate\tseconds\tmilliseconds\tassociation\n",
-    ));
+    );
+    rows(&rt, begun);
 }

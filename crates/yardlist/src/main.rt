@@ -1,11 +1,14 @@
 // Reads a request and neighbour entries from standard input and prints the candidates for a parent.
+#![tactic(auto)]
+
 use filter::Input;
 
 // Prints the usage if there is an argument, and answers whether it did.
-fn usage_printed() -> bool {
+fn usage_printed(rt: &HostRuntime) -> bool {
     filter::print_usage(
+        rt,
         b"yardlist",
-        os::arg_count(),
+        filter::word_count(rt),
         b"Usage: yardlist < YARD\n\
         \n\
         Tells which routers of a yard a plug would try as its parent, and in which\n\
@@ -23,20 +26,20 @@ fn usage_printed() -> bool {
     )
 }
 
-fn print_list(input: &[u8]) {
+fn print_list(rt: &HostRuntime, input: &[u8]) {
     let mut out = [0u8; 512];
     let length = yard_list::yard_list(input, &mut out);
-    filter::write(b"yardlist", &out[..length]);
+    filter::write(rt, b"yardlist", &out[..length]);
 }
 
 // The first 1,024 bytes are enough: `cut-is-enough` of yard_list says that the list of a longer input is theirs.
-fn main() {
-    if usage_printed() {
+fn main(rt: HostRuntime) {
+    if usage_printed(&rt) {
         return;
     }
     let mut input = [0u8; 1024];
-    let Input::Bytes(n) = filter::read_full(b"yardlist", &mut input) else {
+    let Input::Bytes(n) = filter::read_full(&rt, b"yardlist", &mut input) else {
         return;
     };
-    print_list(&input[..n]);
+    print_list(&rt, &input[..n]);
 }
