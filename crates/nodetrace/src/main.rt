@@ -1,10 +1,12 @@
 // Reads a trace from standard input and prints what the node answers.
+#![tactic(auto)]
+
 use filter::Input;
 use trace::Run;
 use trace_calls::Session;
 
 // A run, how many bytes of a line that is not ended are kept, and whether the input is over.
-#[derive(Drop)]
+#[derive(Clone, Copy)]
 struct Fed {
     run: Run,
     kept: usize,
@@ -12,10 +14,11 @@ struct Fed {
 }
 
 // Prints the usage if there is an argument, and answers whether it did.
-fn usage_printed() -> bool {
+fn usage_printed(rt: &HostRuntime) -> bool {
     filter::print_usage(
+        rt,
         b"nodetrace",
-        os::arg_count(),
+        filter::word_count(rt),
         b"Usage: nodetrace < TRACE\n\
         \n\
         Tells what a node does, call by call.\n\
@@ -34,25 +37,25 @@ fn usage_printed() -> bool {
 }
 
 // Answers a line that is ended. A run whose answer can't be printed is no longer good, and ends as at a bad line.
-fn answer(run: Run, line: &[u8]) -> Run {
+fn answer(rt: &HostRuntime, run: Run, line: &[u8]) -> Run {
     let mut out = [0u8; 16384];
     let mut next = run.answer_line(line, &mut out);
     let length = next.length;
-    if !filter::write(b"nodetrace", &out[..length]) {
+    if !filter::write(rt, b"nodetrace", &out[..length]) {
         next.good = false;
     }
     next
 }
 
 // Reads on through the next bytes of the input. Of a line 512 bytes are kept: no line of so many is of the format.
-fn feed(mut run: Run, mut kept: usize, piece: &[u8], line: &mut [u8]) -> Fed {
+fn feed(rt: &HostRuntime, mut run: Run, mut kept: usize, piece: &[u8], line: &mut [u8]) -> Fed {
     let mut at = 0;
     while at < piece.len() {
         let taken = pieces::take_line(line, kept, piece, at);
         at = taken.at;
         kept = taken.kept;
         if taken.ended {
-            run = answer(run, &line[..kept]);
+            run = answer(rt, run, &line[..kept]);
             kept = 0;
             if !run.good {
                 return Fed {
@@ -71,34 +74,34 @@ fn feed(mut run: Run, mut kept: usize, piece: &[u8], line: &mut [u8]) -> Fed {
 }
 
 // At the end of the input: a line that is not ended is bad, and so is a beacon that is missing. The empty line, which is bad too, stands for either.
-fn finish(run: Run, kept: usize) {
+fn finish(rt: &HostRuntime, run: Run, kept: usize) {
     if kept != 0 {
-        answer(run, b"");
+        answer(rt, run, b"");
         return;
     }
     if run.session.missing != 0 {
-        answer(run, b"");
+        answer(rt, run, b"");
     }
 }
 
 // Reads once, and answers the lines that are ended. Where the read fails the input is over, and nothing more is said of it.
-fn read_some(mut fed: Fed, line: &mut [u8]) -> Fed {
+fn read_some(rt: &HostRuntime, mut fed: Fed, line: &mut [u8]) -> Fed {
     let mut piece = [0u8; 16384];
-    let Input::Bytes(n) = filter::read(b"nodetrace", &mut piece) else {
+    let Input::Bytes(n) = filter::read(rt, b"nodetrace", &mut piece) else {
         fed.over = true;
         return fed;
     };
     if n == 0 {
-        finish(fed.run, fed.kept);
+        finish(rt, fed.run, fed.kept);
         fed.over = true;
         return fed;
     }
-    feed(fed.run, fed.kept, &piece[..n], line)
+    feed(rt, fed.run, fed.kept, &piece[..n], line)
 }
 
-// A proved loop has to end, and nothing says that the input does: the loop counts down from a number that no run uses up.
-fn main() {
-    if usage_printed() {
+// A proved loop has to end, and nothing says that the input does: the loop has more turns than any run uses up.
+fn main(rt: HostRuntime) {
+    if usage_printed(&rt) {
         return;
     }
     let mut line = [0u8; 512];
@@ -114,12 +117,10 @@ fn main() {
         kept: 0,
         over: false,
     };
-    let mut turns = u64::MAX;
-    while turns > 0 {
-        fed = read_some(fed, &mut line);
+    for _ in 0..u64::MAX {
+        fed = read_some(&rt, fed, &mut line);
         if fed.over {
             return;
         }
-        turns -= 1;
     }
 }

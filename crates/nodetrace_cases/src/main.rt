@@ -1,16 +1,27 @@
 // Runs traces that stand in one input, parted by the byte 0x1e.
 // A case is a line with its name, and then the trace. Its name and its answers are printed.
+#![tactic(auto)]
+
 ghost use Rattle.std.specs.Prelude.{◌≤◌};
 
-use libc::{STDIN_FILENO, STDOUT_FILENO};
+use filter::Input;
 use trace::Run;
 use trace_calls::Session;
 
-fn answer(run: Run, line: &[u8]) -> Run {
+const NAME: [u8; 15] = *b"nodetrace_cases";
+
+fn print(rt: &HostRuntime, bytes: &[u8]) -> bool {
+    filter::write(rt, &NAME, bytes)
+}
+
+// Answers a line that is ended. A run whose answer can't be printed is no longer good, and ends as at a bad line.
+fn answer(rt: &HostRuntime, run: Run, line: &[u8]) -> Run {
     let mut out = [0u8; 16384];
-    let next = run.answer_line(line, &mut out);
+    let mut next = run.answer_line(line, &mut out);
     let length = next.length;
-    io::write_all(STDOUT_FILENO, &out[..length]);
+    if !print(rt, &out[..length]) {
+        next.good = false;
+    }
     next
 }
 
@@ -29,7 +40,7 @@ fn one_less(n: usize) -> usize
 
 // Answers the lines of a case; the first is its name. What is not ended at its end is bad, and so is a beacon that is missing.
 // The empty line, which is bad too, stands for either.
-fn answer_lines(case: &[u8]) {
+fn answer_lines(rt: &HostRuntime, case: &[u8]) {
     let ended = one_less(text::part_count(case, b'\n'));
     let session = Session::new();
     let mut run = Run {
@@ -38,38 +49,40 @@ fn answer_lines(case: &[u8]) {
         good: true,
         length: 0,
     };
-    let mut k: usize = 1;
-    while k < ended {
-        run = answer(run, text::part(case, b'\n', k));
+    for k in 1..ended {
+        run = answer(rt, run, text::part(case, b'\n', k));
         if !run.good {
             return;
         }
-        k += 1;
     }
     if text::part(case, b'\n', ended).len() != 0 {
-        answer(run, b"");
+        answer(rt, run, b"");
         return;
     }
     if run.session.missing != 0 {
-        answer(run, b"");
+        answer(rt, run, b"");
     }
 }
 
-fn run_case(case: &[u8]) {
-    io::write_all(STDOUT_FILENO, b"# ");
-    io::write_all(STDOUT_FILENO, text::part(case, b'\n', 0));
-    io::write_all(STDOUT_FILENO, b"\n");
-    answer_lines(case);
+// Answers whether the case's name could be printed.
+fn run_case(rt: &HostRuntime, case: &[u8]) -> bool {
+    if !(print(rt, b"# ") && print(rt, text::part(case, b'\n', 0)) && print(rt, b"\n")) {
+        return false;
+    }
+    answer_lines(rt, case);
+    true
 }
 
-fn main() {
+fn main(rt: HostRuntime) {
     let mut space = [0u8; 65536];
-    let n = io::read_full(STDIN_FILENO, &mut space);
+    let Input::Bytes(n) = filter::read_full(&rt, &NAME, &mut space) else {
+        return;
+    };
     let input = &space[..n];
     let count = text::part_count(input, 0x1e);
-    let mut k = 0;
-    while k < count {
-        run_case(text::part(input, 0x1e, k));
-        k += 1;
+    for k in 0..count {
+        if !run_case(&rt, text::part(input, 0x1e, k)) {
+            return;
+        }
     }
 }

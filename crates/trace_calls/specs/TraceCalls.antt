@@ -1,7 +1,6 @@
 -- A trace's lines taken one by one (compare/FORMAT.md): which may come, what each leaves, and what it says of the node.
 use Rattle.std.specs.Prelude.{ℕ, ◌+◌, ◌-◌, Bool, true, false, cond, [], eqb, ltb, set, replicate}
-use Rattle.nib.specs.Attributes.{blank_nib}
-use Rattle.nib.specs.Neighbors.{pushed}
+use Rattle.nib.specs.Neighbors.{table_of, pushed}
 use Rattle.discovery.specs.declared.mlme.Address.TheVariants.{Short}
 use Rattle.discovery.specs.declared.mlme.PanDescriptor.{PanDescriptor}
 use Rattle.discovery.specs.declared.mlme.PanDescriptorList.{PanDescriptorList}
@@ -9,11 +8,18 @@ use Rattle.discovery.specs.Discovery.{confirm_of}
 use Rattle.discovery.specs.declared.NlmeNetworkDiscoveryConfirm.{NlmeNetworkDiscoveryConfirm}
 use Rattle.candidates.specs.Candidates.{list_of}
 use Rattle.candidates.specs.declared.CandidateList.{CandidateList}
+use Rattle.supervision.specs.Failures.{failures_of}
 use Rattle.supervision.specs.declared.TransmitFailure.{TransmitFailure}
 use Rattle.supervision.specs.declared.TransmitFailures.{TransmitFailures}
-use Rattle.nlme.specs.Fields.{with_pending, with_timer, with_failures}
-use Rattle.nlme.specs.Nlme.{new_nlme}
-use Rattle.node.specs.Beginning.{new_state}
+use Rattle.management.specs.declared.Signals.{Signals}
+use Rattle.management.specs.declared.RejoinResponseSlot.TheVariants.{NoRejoinResponse}
+use Rattle.management.specs.declared.TimeoutResponseSlot.TheVariants.{NoTimeoutResponse}
+use Rattle.management.specs.declared.LeaveIndicationSlot.TheVariants.{NoLeaveIndication}
+use Rattle.management.specs.declared.StatusIndicationSlot.TheVariants.{NoStatusIndication}
+use Rattle.nlme.specs.Fields.{with_failures}
+use Rattle.nlme.specs.declared.Nlme.{Nlme}
+use Rattle.operation.specs.declared.Operation.{Operation}
+use Rattle.operation.specs.declared.Phase.TheVariants.{Idle}
 use Rattle.node.specs.Looks.{with_table}
 use Rattle.operation.specs.declared.TimeoutFor.{TimeoutFor}
 use Rattle.node.specs.Calls.{with_node, scanned, choose}
@@ -37,10 +43,68 @@ use Rattle.trace_calls.specs.declared.Turn.{Turn}
 
 -- The state that a `node` line begins: "no neighbours, no pairs, every slot empty, no operation under way"
 
+abbrev pub no_signals : Signals
+no_signals =
+    record {
+      rejoin_response = NoRejoinResponse;
+      timeout_response = NoTimeoutResponse;
+      leave_indication = NoLeaveIndication;
+      nwk_status_indication = NoStatusIndication;
+    }
+
+unfoldable pub own_part : NodeFields → Nlme
+own_part l =
+    record {
+      nib = l.nib;
+      nwk_seq = l.nwk_seq;
+      pending_timeout_request = l.pending_timeout_request;
+      parent_timer = record { remaining_ms = l.remaining_ms };
+      signals = no_signals;
+      transmit_failures = failures_of [];
+    }
+
+abbrev pub idle : Operation
+idle =
+    record {
+      phase = Idle;
+      extended_pan_id = record { 0 = 0 };
+      security_enabled = false;
+      scan = record { first = 0; past = 0; duration = 0 };
+      scan_requested = false;
+      channel = 0;
+      polls_left = 0;
+    }
+
 unfoldable pub begun : NodeFields → State
 begun l =
-    with_node (with_timer (record { remaining_ms = l.remaining_ms }) (with_pending l.pending_timeout_request (new_nlme l.nib l.nwk_seq)))
-    (new_state l.nib l.nwk_seq)
+    record {
+      control = record { nlme = own_part l; operation = idle };
+      table = table_of [];
+      candidates = record { list = list_of []; taken = 0 };
+    }
+
+-- a `node` line of zeros: what stands in the place of a node before the first
+abbrev pub no_node : NodeFields
+no_node =
+    record {
+      nib =
+          record {
+            network_address = record { 0 = 0 };
+            ieee_address = record { 0 = 0 };
+            extended_panid = record { 0 = 0 };
+            panid = record { 0 = 0 };
+            update_id = 0;
+            capability_information = record { 0 = 0 };
+            stack_profile = 0;
+            parent_information = 0;
+            end_device_timeout = 0;
+            end_device_timeout_default = 0;
+            leave_request_allowed = false;
+          };
+      nwk_seq = 0;
+      pending_timeout_request = 0;
+      remaining_ms = 0;
+    }
 
 -- The beacons of a scan
 
@@ -65,9 +129,9 @@ with_beacon missing d l = record { descriptors = set l.descriptors (l.count - mi
 
 -- Sessions
 
--- before the first line; what stands in the place of a node is not looked at
+-- before the first line
 unfoldable pub before : Session
-before = record { state = new_state (blank_nib (record { 0 = 0 })) 0; stage = NoNode; missing = 0; scan = unheard 0 }
+before = record { state = begun no_node; stage = NoNode; missing = 0; scan = unheard 0 }
 
 -- after `node`, and `e` and `f` behind it
 abbrev pub set_up : State → Session → Session

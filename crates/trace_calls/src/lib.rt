@@ -1,24 +1,36 @@
 // A trace's lines, taken one by one: what stands between two of them, and what a line says of the node.
+#![tactic(auto)]
+
 ghost use Rattle.std.specs.Prelude.{◌≡◌, ◌-◌};
 ghost use Rattle.nib.specs.Neighbors.{pushed};
 ghost use Rattle.node.specs.Looks.{with_table};
-ghost use Rattle.trace_calls.specs.TraceCalls.{begun, with_pair, with_pairs, unheard, with_beacon, before, set_up, saying, nothing, told, with_networks, scan_after, chosen, kind_of, has_room, has_node, is_beacon, may_come, fits_at, taken};
+ghost use Rattle.trace_calls.specs.TraceCalls.{no_node, own_part, idle, begun, with_pair, with_pairs, unheard, with_beacon, before, set_up, saying, nothing, told, with_networks, scan_after, chosen, kind_of, has_room, has_node, is_beacon, may_come, fits_at, taken};
 ghost use Rattle.trace_calls.specs.Private.{state_after, scan_so_far, answer, called};
 
 use candidates::CandidateList;
+use candidates::tries::Candidates;
 use discovery::NlmeNetworkDiscoveryConfirm;
 use discovery::mlme::{
     Address, MAX_PAN_DESCRIPTOR_SIZE, PanDescriptor, PanDescriptorList, StackProfile,
     SuperframeSpecification, ZigbeeBeacon,
 };
-use nib::{ExtendedPanId, IeeeAddress, MAX_NEIGBOUR_TABLE, Nib, NwkNeighbor, PanId, ShortAddress};
+use management::{
+    LeaveIndicationSlot, RejoinResponseSlot, ScanRange, Signals, StatusIndicationSlot,
+    TimeoutResponseSlot,
+};
+use nib::{
+    CapabilityInformation, ExtendedPanId, IeeeAddress, MAX_NEIGBOUR_TABLE, NeighborTable, Nib,
+    NwkNeighbor, PanId, ShortAddress,
+};
+use nlme::Nlme;
 use node::{Answer, ScanOutcome, State};
-use operation::{Note, Step};
+use operation::{Control, Note, Operation, Phase, Step};
+use supervision::parent_timer::ParentTimer;
 use supervision::{TransmitFailure, TransmitFailures};
 use trace_input::{Call, NodeFields};
 
 // Which lines may come next where no beacon is due: a `node` line alone; further lines of the state, or calls; calls.
-#[derive(Drop)]
+#[derive(Clone, Copy)]
 pub enum Stage {
     NoNode,
     SettingUp,
@@ -26,7 +38,7 @@ pub enum Stage {
 }
 
 // What stands between two lines.
-#[derive(Drop)]
+#[derive(Clone, Copy)]
 pub struct Session {
     pub state: State,
     pub stage: Stage,
@@ -37,7 +49,7 @@ pub struct Session {
 
 // What a line says: that it is not of the format; nothing; an answer, with its reset note; a choice of candidates, with its refusal, 0 for none;
 // the state; a page, by the length of the lent buffer.
-#[derive(Drop)]
+#[derive(Clone, Copy)]
 pub enum Said {
     Bad,
     Nothing,
@@ -49,7 +61,7 @@ pub enum Said {
 
 // The session after a line, and what the line says.
 // With it are the networks that a discovery found and the candidates that were chosen, none of them for any other line.
-#[derive(Drop)]
+#[derive(Clone, Copy)]
 pub struct Turn {
     pub session: Session,
     pub said: Said,
@@ -59,14 +71,93 @@ pub struct Turn {
 
 // A state that a `node` line begins.
 
+fn no_node() -> NodeFields
+    ensures { result ≡ no_node }
+{
+    let nib = Nib {
+        network_address: ShortAddress(0),
+        ieee_address: IeeeAddress(0),
+        extended_panid: ExtendedPanId(0),
+        panid: PanId(0),
+        update_id: 0,
+        capability_information: CapabilityInformation(0),
+        stack_profile: 0,
+        parent_information: 0,
+        end_device_timeout: 0,
+        end_device_timeout_default: 0,
+        leave_request_allowed: false,
+    };
+    NodeFields {
+        nib,
+        nwk_seq: 0,
+        pending_timeout_request: 0,
+        remaining_ms: 0,
+    }
+}
+
+// The node's own part: no pairs, and every slot is empty.
+fn own_part(node: NodeFields) -> Nlme
+    ensures { result ≡ own_part node }
+{
+    let nib = node.nib;
+    let none = TransmitFailure {
+        address: ShortAddress(0),
+        count: 0,
+    };
+    let pairs = [none; MAX_NEIGBOUR_TABLE as usize];
+    Nlme {
+        nib,
+        nwk_seq: node.nwk_seq,
+        pending_timeout_request: node.pending_timeout_request,
+        parent_timer: ParentTimer {
+            remaining_ms: node.remaining_ms,
+        },
+        signals: Signals {
+            rejoin_response: RejoinResponseSlot::NoRejoinResponse,
+            timeout_response: TimeoutResponseSlot::NoTimeoutResponse,
+            leave_indication: LeaveIndicationSlot::NoLeaveIndication,
+            nwk_status_indication: StatusIndicationSlot::NoStatusIndication,
+        },
+        transmit_failures: TransmitFailures { pairs, count: 0 },
+    }
+}
+
+fn idle() -> Operation
+    ensures { result ≡ idle }
+{
+    Operation {
+        phase: Phase::Idle,
+        extended_pan_id: ExtendedPanId(0),
+        security_enabled: false,
+        scan: ScanRange {
+            first: 0,
+            past: 0,
+            duration: 0,
+        },
+        scan_requested: false,
+        channel: 0,
+        polls_left: 0,
+    }
+}
+
 // A node with no neighbours and no operation under way.
 fn begun(node: NodeFields) -> State
     ensures { result ≡ begun node }
 {
-    let mut state = State::new(node.nib, node.nwk_seq);
-    state.control.nlme.pending_timeout_request = node.pending_timeout_request;
-    state.control.nlme.parent_timer.remaining_ms = node.remaining_ms;
-    state
+    let nlme = own_part(node);
+    let operation = idle();
+    let control = Control { nlme, operation };
+    let table = NeighborTable::new();
+    let list = CandidateList {
+        indexes: [0; MAX_NEIGBOUR_TABLE as usize],
+        count: 0,
+    };
+    let candidates = Candidates { list, taken: 0 };
+    State {
+        control,
+        table,
+        candidates,
+    }
 }
 
 // One pair more behind those in use; a full record stays.
@@ -177,7 +268,7 @@ fn one_less(missing: u32) -> u32
 }
 
 // How many beacons of a scan are still to come after a line, and its outcome as far as it was heard.
-#[derive(Drop)]
+#[derive(Clone, Copy)]
 struct ScanSoFar {
     missing: u32,
     outcome: ScanOutcome,
@@ -239,7 +330,7 @@ impl Session {
     pub fn new() -> Session
         ensures { result ≡ before }
     {
-        let state = State::new(Nib::new(IeeeAddress(0)), 0);
+        let state = begun(no_node());
         let scan = unheard(0);
         Session {
             state,
@@ -381,7 +472,7 @@ impl Session {
 // Which lines may come.
 
 // The kind of a line: none of the format; `node`; `e`; `f`; `scan` or `scanfail`; `b`; any other.
-#[derive(Drop)]
+#[derive(Clone, Copy)]
 enum Kind {
     NoLine,
     NodeLine,

@@ -1,4 +1,6 @@
 // What a line of a trace says: the arguments of a call, from the numbers of the line.
+#![tactic(auto)]
+
 ghost use Rattle.std.specs.Prelude.{◌≡◌, ◌<◌, ◌≤◌};
 ghost use Rattle.discovery.specs.declared.mlme.Address.TheVariants.{Short, Extended};
 ghost use Rattle.join.specs.declared.association.AssociationOutcome.TheVariants.{Associated};
@@ -23,7 +25,7 @@ use supervision::TransmitFailure;
 use trace_lines::Line;
 
 // What a `node` line gives.
-#[derive(Drop)]
+#[derive(Clone, Copy)]
 pub struct NodeFields {
     pub nib: Nib,
     pub nwk_seq: u8,
@@ -32,7 +34,7 @@ pub struct NodeFields {
 }
 
 // What a line of the input says. `Bad` is a line that is not of the format.
-#[derive(Drop)]
+#[derive(Clone, Copy)]
 pub enum Call {
     Bad,
     Node(NodeFields),
@@ -417,8 +419,8 @@ fn call_of_20_to_26(line: Line) -> Call
     }
 }
 
-fn call_of_27_to_31(line: Line) -> Call
-    requires { (27 ≤ line.kind) × (line.kind < 32) }
+fn call_of_27_and_more(line: Line) -> Call
+    requires { 27 ≤ line.kind }
     ensures { result ≡ call_of line }
 {
     let kind = line.kind;
@@ -427,16 +429,7 @@ fn call_of_27_to_31(line: Line) -> Call
         28 => return Call::TakeStatus,
         29 => return Call::Choose(network_of(line), flag_of(line, 2), flag_of(line, 3)),
         30 => return Call::PrintState,
-        _ => return Call::Failure(failure_of(line)),
-    }
-}
-
-fn call_of_32_and_more(line: Line) -> Call
-    requires { 32 ≤ line.kind }
-    ensures { result ≡ call_of line }
-{
-    let kind = line.kind;
-    match kind {
+        31 => return Call::Failure(failure_of(line)),
         32 => return Call::Page(length_of(line)),
         33 => return Call::Refresh,
         _ => return Call::Bad,
@@ -460,8 +453,5 @@ pub fn call_of(line: Line) -> Call
     if kind < 27 {
         return call_of_20_to_26(line);
     }
-    if kind < 32 {
-        return call_of_27_to_31(line);
-    }
-    return call_of_32_and_more(line);
+    return call_of_27_and_more(line);
 }
