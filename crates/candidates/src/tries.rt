@@ -10,7 +10,7 @@ use nib::{CapabilityInformation, ExtendedPanId, MAX_NEIGBOUR_TABLE, NeighborTabl
 
 // Indexes into the neighbour table. Of the first `taken` the last is being tried, and those before it have been tried or skipped.
 // The others are still to be tried.
-#[derive(Drop)]
+#[derive(Clone, Copy)]
 pub struct Candidates {
     pub list: CandidateList,
     pub taken: u8,

@@ -1,4 +1,6 @@
 // The neighbour table and the network descriptors that a discovery makes from a scan.
+#![tactic(auto)]
+
 ghost use Rattle.std.specs.Prelude.{◌+◌, ◌≤◌, min, ◌≡◌, cond, [], map, ltb, length, take, get_or};
 ghost use Rattle.nib.specs.Neighbors.{table_of};
 ghost use Rattle.discovery.specs.Mlme.{descriptors_of};
@@ -25,7 +27,7 @@ use nib::{
 };
 
 // What a discovery tells of one beacon.
-#[derive(Drop)]
+#[derive(Clone, Copy)]
 pub struct NetworkDescriptor {
     pub extended_pan_id: ExtendedPanId,
     pub pan_id: PanId,
@@ -44,7 +46,7 @@ pub struct NetworkDescriptor {
 pub const MAX_NETWORK_DESCRIPTORS: u8 = MAX_PAN_DESCRIPTOR_SIZE as u8;
 
 // The confirm of a discovery: the first `count` descriptors are in use.
-#[derive(Drop)]
+#[derive(Clone, Copy)]
 pub struct NlmeNetworkDiscoveryConfirm {
     pub network_descriptor: [NetworkDescriptor; MAX_PAN_DESCRIPTOR_SIZE],
     pub count: u8,

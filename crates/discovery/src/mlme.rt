@@ -6,14 +6,14 @@ ghost use Rattle.discovery.specs.Mlme.{bits, mac_capabilities};
 use nib::{CapabilityInformation, ExtendedPanId, IeeeAddress, PanId, ShortAddress};
 
 // The address of the sender of a beacon, with its PAN id.
-#[derive(Drop)]
+#[derive(Clone, Copy)]
 pub enum Address {
     Short(PanId, ShortAddress),
     Extended(PanId, IeeeAddress),
 }
 
 // The fields of a superframe specification that decisions or the discovery's confirm read.
-#[derive(Drop)]
+#[derive(Clone, Copy)]
 pub struct SuperframeSpecification {
     pub beacon_order: u8,
     pub superframe_order: u8,
@@ -21,7 +21,7 @@ pub struct SuperframeSpecification {
 }
 
 // The stack profile field of a beacon, as received.
-#[derive(Drop)]
+#[derive(Clone, Copy)]
 pub struct StackProfile(pub u16);
 
 impl StackProfile {
@@ -61,14 +61,14 @@ impl StackProfile {
     }
 }
 
-#[derive(Drop)]
+#[derive(Clone, Copy)]
 pub struct ZigbeeBeacon {
     pub stack_profile: StackProfile,
     pub extended_pan_id: ExtendedPanId,
     pub update_id: u8,
 }
 
-#[derive(Drop)]
+#[derive(Clone, Copy)]
 pub struct PanDescriptor {
     pub channel: u8,
     pub coord_pan_id: PanId,
@@ -82,14 +82,14 @@ pub struct PanDescriptor {
 pub const MAX_PAN_DESCRIPTOR_SIZE: usize = 27;
 
 // What a scan found, in the order of the beacons: the first `count` descriptors are in use. A caller may hand in any count.
-#[derive(Drop)]
+#[derive(Clone, Copy)]
 pub struct PanDescriptorList {
     pub descriptors: [PanDescriptor; MAX_PAN_DESCRIPTOR_SIZE],
     pub count: usize,
 }
 
 // The capability information of an association request (IEEE 802.15.4).
-#[derive(Drop)]
+#[derive(Clone, Copy)]
 pub struct MacCapabilityInformation {
     pub full_function_device: bool,
     pub mains_power: bool,

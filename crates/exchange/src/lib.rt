@@ -1,4 +1,6 @@
 // Sends, polls and receives outside a rejoin, the start of each and what follows each outcome; the tick and the takings.
+#![tactic(auto)]
+
 ghost use Rattle.std.specs.Prelude.{◌≡◌, cond};
 ghost use Rattle.management.specs.Frame.{next_seq};
 ghost use Rattle.management.specs.declared.frame.SentFrame.TheVariants.{DataFrame};

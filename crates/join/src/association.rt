@@ -9,7 +9,7 @@ use nib::{CapabilityInformation, IeeeAddress, Neighbor, NwkNeighbor, ShortAddres
 use operation::{AssociateRequest, Control, Decision, Move, Phase, RadioRequest, Step};
 
 // The answer of a candidate: its status, the short address assigned and this device's IEEE address.
-#[derive(Drop)]
+#[derive(Clone, Copy)]
 pub struct AssociationResponse {
     pub status: u8,
     pub association_address: ShortAddress,
@@ -17,7 +17,7 @@ pub struct AssociationResponse {
 }
 
 // The outcome of an association: the answer of the candidate, or a radio error.
-#[derive(Drop)]
+#[derive(Clone, Copy)]
 pub enum AssociationOutcome {
     Associated(AssociationResponse),
     AssociationFailed,

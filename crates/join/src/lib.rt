@@ -1,4 +1,6 @@
 // What a join and a rejoin share: a confirm without success, what is reset and stored at the start, and the status of a response that is no success.
+#![tactic(auto)]
+
 ghost use Rattle.std.specs.Prelude.{◌≡◌};
 ghost use Rattle.nlme.specs.Fields.{with_nib};
 ghost use Rattle.operation.specs.Operation.{with_nlme, in_phase, decided};

@@ -1,1 +1,2 @@
 // Whose leave is indicated: this library has no code, only the statement in specs/ and its proof in proofs/.
+#![tactic(auto)]

@@ -1,10 +1,8 @@
 -- Laws of the tick over a lent record: when it is turned down, and what it is for the state's own record. Assumes nothing.
 use Prim.Native.Nat.{ℕ}
-use mathlib.Core.Path.{◌≡◌, refl, sym, ap, subst, ◌∙◌}
+use mathlib.Core.Path.{◌≡◌, refl, sym, ap, ◌∙◌}
 use mathlib.Core.Bool.{Bool, true, false, cond}
-use mathlib.Core.List.{List, [], ◌∷◌}
 use native.Mathlib.Omega.{arith}
-use types.Run.{OneOf, miss}
 use denote.Enum.Declared.{tag_of}
 use Rattle.lists.proofs.Conditions.{pick_true, pick-false}
 use Rattle.supervision.specs.declared.parent_timer.ParentTimer.{ParentTimer}
@@ -28,10 +26,6 @@ tag-of ms s = go (bad s) _ refl
     go true a h = refl
     go false a h = h
 
--- the tags of all answers but a refusal
-abbrev no_refusal : List ℕ
-no_refusal = 1 ∷ 2 ∷ 3 ∷ 4 ∷ 5 ∷ 6 ∷ 7 ∷ 8 ∷ 9 ∷ 10 ∷ 11 ∷ 12 ∷ 13 ∷ []
-
 -- a is the tick of the state with the lent record: if it says that it was refused, 5 turned it down; if it says anything else, 5 did not
 module _ (t : ParentTimer) (ms : ℕ) (s : State) (a : Answer) (e : a ≡ answer (with_timer t s) (elapsed ms)) where
   tag : tag_of the_type a.step ≡ cond (bad s) 0 9
@@ -53,12 +47,12 @@ module _ (t : ParentTimer) (ms : ℕ) (s : State) (a : Answer) (e : a ≡ answer
       go true q = refl
       go false q = absurd (omega arith)
 
-  pub if-not-refused : OneOf no_refusal (tag_of the_type a.step) → with_record a ≡ lent_tick t ms s
-  unfolding lent_tick
-  if-not-refused h = ap with_record e ∙ pick-false (bad s) _ _ (go (bad s) (subst (OneOf no_refusal) tag h))
+  pub if-not-refused : ((n : ℕ) → a.step ≡ Refused n → ⊥) → with_record a ≡ lent_tick t ms s
+  unfolding lent_tick refuse
+  if-not-refused h = ap with_record e ∙ pick-false (bad s) _ _ (go (bad s) refl)
     where
-      go : (b : Bool) → OneOf no_refusal (cond b 0 9) → b ≡ false
-      go true q = absurd (miss no_refusal 0 tt q)
+      go : (b : Bool) → bad s ≡ b → b ≡ false
+      go true q = absurd (h 5 (ap (λ (x : Answer). x.step) (refused-alike q)))
       go false q = refl
 
 -- lent the state's own record, the answer is the state's tick, and the record left is that of the state left

@@ -1,4 +1,6 @@
 // The tick of the timer interrupt, which lends its timer record and finds it updated there: by value, and over the lent record.
+#![tactic(auto)]
+
 ghost use Rattle.std.specs.Prelude.{◌≡◌};
 ghost use Rattle.lent_tick.specs.LentTick.{with_timer, with_state, with_record, lent_tick};
 
@@ -7,7 +9,7 @@ use operation::Step;
 use supervision::parent_timer::ParentTimer;
 
 // What a tick leaves in the lent record, and what it answers.
-#[derive(Drop)]
+#[derive(Clone, Copy)]
 pub struct LentTicked {
     pub timer: ParentTimer,
     pub answer: Answer,

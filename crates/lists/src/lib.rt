@@ -1,1 +1,2 @@
 // Lists: this library has no code, only the definitions of specs/ and their laws in proofs/.
+#![tactic(auto)]

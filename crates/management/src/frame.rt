@@ -6,14 +6,14 @@ use crate::{EndDeviceTimeoutResponse, RejoinResponse};
 use nib::{CapabilityInformation, IeeeAddress, OptionalIeee, ShortAddress};
 
 // The sender of a received frame.
-#[derive(Drop)]
+#[derive(Clone, Copy)]
 pub struct Source {
     pub address: ShortAddress,
     pub ieee: OptionalIeee,
 }
 
 // The options of a leave command (Zigbee 3.4.4): whether it is a request, whether the device that leaves rejoins, and whether its children are removed.
-#[derive(Drop)]
+#[derive(Clone, Copy)]
 pub struct LeaveOptions {
     pub request: bool,
     pub rejoin: bool,
@@ -21,7 +21,7 @@ pub struct LeaveOptions {
 }
 
 // A frame that the radio received, decoded, or one that can't be decoded.
-#[derive(Drop)]
+#[derive(Clone, Copy)]
 pub enum ReceivedFrame {
     Undecodable,
     Data(Source),
@@ -35,7 +35,7 @@ pub enum ReceivedFrame {
 }
 
 // The header of a command frame that is sent.
-#[derive(Drop)]
+#[derive(Clone, Copy)]
 pub struct CommandHeader {
     pub destination: ShortAddress,
     pub destination_ieee: OptionalIeee,
@@ -46,7 +46,7 @@ pub struct CommandHeader {
 }
 
 // The header of a data frame that is sent: it carries no IEEE address.
-#[derive(Drop)]
+#[derive(Clone, Copy)]
 pub struct DataHeader {
     pub destination: ShortAddress,
     pub source: ShortAddress,
@@ -55,7 +55,7 @@ pub struct DataHeader {
 }
 
 // A command that is sent.
-#[derive(Drop)]
+#[derive(Clone, Copy)]
 pub enum SentCommand {
     RejoinRequest(CapabilityInformation),
     // the requested timeout index
@@ -65,7 +65,7 @@ pub enum SentCommand {
 }
 
 // A frame that is sent.
-#[derive(Drop)]
+#[derive(Clone, Copy)]
 pub enum SentFrame {
     DataFrame(DataHeader),
     CommandFrame(CommandHeader, SentCommand),

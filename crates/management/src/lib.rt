@@ -1,4 +1,6 @@
 // Requests, confirms and indications of the NLME, and the slots that hold an indication until it is taken.
+#![tactic(auto)]
+
 ghost use Rattle.std.specs.Prelude.{◌≡◌};
 ghost use Rattle.management.specs.Signals.{no_signals, with_rejoin_response, with_timeout_response, with_leave_indication, with_status_indication};
 
@@ -7,7 +9,7 @@ pub mod frame;
 use nib::{CapabilityInformation, ExtendedPanId, IeeeAddress, ShortAddress};
 
 // The kinds of a join request, in the order of their numbers 0 to 3 (Zigbee Table 3-21).
-#[derive(Drop)]
+#[derive(Clone, Copy)]
 pub enum RejoinNetwork {
     Association,
     Orphan,
@@ -16,14 +18,14 @@ pub enum RejoinNetwork {
 }
 
 // A scan of the channels from `first` up to, and without, `past`.
-#[derive(Drop)]
+#[derive(Clone, Copy)]
 pub struct ScanRange {
     pub first: u8,
     pub past: u8,
     pub duration: u8,
 }
 
-#[derive(Drop)]
+#[derive(Clone, Copy)]
 pub struct NlmeJoinRequest {
     pub extended_pan_id: ExtendedPanId,
     pub rejoin_network: RejoinNetwork,
@@ -32,7 +34,7 @@ pub struct NlmeJoinRequest {
     pub scan: ScanRange,
 }
 
-#[derive(Drop)]
+#[derive(Clone, Copy)]
 pub enum NlmeJoinStatus {
     Success,
     InvalidRequest,
@@ -43,7 +45,7 @@ pub enum NlmeJoinStatus {
     MacError,
 }
 
-#[derive(Drop)]
+#[derive(Clone, Copy)]
 pub struct NlmeJoinConfirm {
     pub status: NlmeJoinStatus,
     pub network_address: ShortAddress,
@@ -52,7 +54,7 @@ pub struct NlmeJoinConfirm {
 }
 
 // The answers to a send, a poll or receive, a negotiation and a keepalive.
-#[derive(Drop)]
+#[derive(Clone, Copy)]
 pub enum SendAnswer {
     SendOk,
     SendNotJoined,
@@ -60,7 +62,7 @@ pub enum SendAnswer {
     SendParentLinkFailure,
 }
 
-#[derive(Drop)]
+#[derive(Clone, Copy)]
 pub enum PollAnswer {
     PollData,
     PollNothing,
@@ -69,7 +71,7 @@ pub enum PollAnswer {
     PollUndecodable,
 }
 
-#[derive(Drop)]
+#[derive(Clone, Copy)]
 pub enum NegotiationAnswer {
     Negotiated,
     NotNegotiated,
@@ -77,7 +79,7 @@ pub enum NegotiationAnswer {
     NegotiationMacError,
 }
 
-#[derive(Drop)]
+#[derive(Clone, Copy)]
 pub enum KeepaliveAnswer {
     KeepaliveOk,
     KeepaliveParentLinkFailure,
@@ -85,7 +87,7 @@ pub enum KeepaliveAnswer {
 
 // Whose leave it is: this device's, for the parent's leave or an accepted request; a neighbour's, by its IEEE address;
 // or a neighbour's by its short address, where its leave has no IEEE address.
-#[derive(Drop)]
+#[derive(Clone, Copy)]
 pub enum LeavingDevice {
     ThisDevice,
     NeighborByIeee(IeeeAddress),
@@ -93,56 +95,56 @@ pub enum LeavingDevice {
 }
 
 // A device has left, and whether it is to rejoin.
-#[derive(Drop)]
+#[derive(Clone, Copy)]
 pub struct NlmeLeaveIndication {
     pub device: LeavingDevice,
     pub rejoin: bool,
 }
 
 // The only status is ParentLinkFailure; the address is the parent's, 0xffff where there is none.
-#[derive(Drop)]
+#[derive(Clone, Copy)]
 pub struct NlmeNwkStatusIndication {
     pub network_address: ShortAddress,
 }
 
-#[derive(Drop)]
+#[derive(Clone, Copy)]
 pub struct RejoinResponse {
     pub network_address: ShortAddress,
     pub status: u8,
 }
 
-#[derive(Drop)]
+#[derive(Clone, Copy)]
 pub struct EndDeviceTimeoutResponse {
     pub status: u8,
     pub parent_information: u8,
 }
 
 // The slots: each keeps the newest value until it is taken.
-#[derive(Drop)]
+#[derive(Clone, Copy)]
 pub enum RejoinResponseSlot {
     NoRejoinResponse,
     HasRejoinResponse(RejoinResponse),
 }
 
-#[derive(Drop)]
+#[derive(Clone, Copy)]
 pub enum TimeoutResponseSlot {
     NoTimeoutResponse,
     HasTimeoutResponse(EndDeviceTimeoutResponse),
 }
 
-#[derive(Drop)]
+#[derive(Clone, Copy)]
 pub enum LeaveIndicationSlot {
     NoLeaveIndication,
     HasLeaveIndication(NlmeLeaveIndication),
 }
 
-#[derive(Drop)]
+#[derive(Clone, Copy)]
 pub enum StatusIndicationSlot {
     NoStatusIndication,
     HasStatusIndication(NlmeNwkStatusIndication),
 }
 
-#[derive(Drop)]
+#[derive(Clone, Copy)]
 pub struct Signals {
     pub rejoin_response: RejoinResponseSlot,
     pub timeout_response: TimeoutResponseSlot,

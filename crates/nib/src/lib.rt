@@ -1,4 +1,6 @@
 // The part of the NWK information base that decisions read or write: identifiers, link cost, capability bits, attributes, neighbour entries and their table.
+#![tactic(auto)]
+
 ghost use Rattle.std.specs.Prelude.{◌≡◌, length, []};
 ghost use Rattle.nib.specs.Identifiers.{link_cost, bit};
 ghost use Rattle.nib.specs.Neighbors.{device_type_at, blank, entries_of, entry_at, table_of, pushed};
@@ -7,20 +9,20 @@ ghost use Rattle.nib.specs.Attributes.{blank_nib};
 pub mod neighbor_table;
 
 // The identifiers are distinct types, so that none is taken for another.
-#[derive(Drop)]
+#[derive(Clone, Copy)]
 pub struct PanId(pub u16);
 
-#[derive(Drop)]
+#[derive(Clone, Copy)]
 pub struct ShortAddress(pub u16);
 
-#[derive(Drop)]
+#[derive(Clone, Copy)]
 pub struct ExtendedPanId(pub u64);
 
-#[derive(Drop)]
+#[derive(Clone, Copy)]
 pub struct IeeeAddress(pub u64);
 
 // An IEEE address that a frame carries or that is known, or none.
-#[derive(Drop)]
+#[derive(Clone, Copy)]
 pub enum OptionalIeee {
     NoIeee,
     Ieee(IeeeAddress),
@@ -68,7 +70,7 @@ pub fn link_cost_from_lqi(lqi: u8) -> u8
     }
 }
 
-#[derive(Drop)]
+#[derive(Clone, Copy)]
 pub struct CapabilityInformation(pub u8);
 
 impl CapabilityInformation {
@@ -109,7 +111,7 @@ impl CapabilityInformation {
 }
 
 // The attributes that decisions read or write. An end device timeout of 255 says that none is negotiated.
-#[derive(Drop)]
+#[derive(Clone, Copy)]
 pub struct Nib {
     pub network_address: ShortAddress,
     pub ieee_address: IeeeAddress,
@@ -146,7 +148,7 @@ impl Nib {
     }
 }
 
-#[derive(Drop)]
+#[derive(Clone, Copy)]
 pub enum DeviceType {
     Coordinator,
     Router,
@@ -165,7 +167,7 @@ pub fn device_type_at(address: ShortAddress) -> DeviceType
 }
 
 // A neighbour entry, in the source's field order. An IEEE address of 0 is not known.
-#[derive(Drop)]
+#[derive(Clone, Copy)]
 pub struct NwkNeighbor {
     pub extended_address: IeeeAddress,
     pub network_address: ShortAddress,
@@ -189,14 +191,14 @@ pub struct NwkNeighbor {
 }
 
 // The neighbour table: the first `count` entries are in use.
-#[derive(Drop)]
+#[derive(Clone, Copy)]
 pub struct NeighborTable {
     pub entries: [NwkNeighbor; MAX_NEIGBOUR_TABLE as usize],
     pub count: u8,
 }
 
 // An entry that is looked up, or that there is none.
-#[derive(Drop)]
+#[derive(Clone, Copy)]
 pub enum Neighbor {
     Absent,
     Entry(NwkNeighbor),

@@ -11,7 +11,7 @@ use crate::{
 };
 
 // What an entry is looked for by: its short address, or that it is a parent.
-#[derive(Drop)]
+#[derive(Clone, Copy)]
 enum Sought {
     Address(ShortAddress),
     Parent,
@@ -75,7 +75,7 @@ pub fn neighbor_ieee_address(table: NeighborTable, address: ShortAddress) -> Opt
 }
 
 // A change of an entry.
-#[derive(Drop)]
+#[derive(Clone, Copy)]
 enum Change {
     ExtendedAddress(IeeeAddress),
     Relationship(u8),

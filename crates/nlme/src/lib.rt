@@ -1,4 +1,6 @@
 // The node's own part of the state, and what calls do to it: frames that are sent, the signal of a parent link failure, and supervision of the parent.
+#![tactic(auto)]
+
 ghost use Rattle.std.specs.Prelude.{◌≡◌};
 ghost use Rattle.supervision.specs.Keepalive.{keepalive_interval_ms, keepalive_method, negotiated_poll_interval_ms};
 ghost use Rattle.nlme.specs.Nlme.{new_nlme, parent_address, link_failure, refreshed, negotiation_reset, command_header, seq_used, timeout_requested, nlme_ticked, sent_via_parent, failed_via_parent};
@@ -7,7 +9,10 @@ pub mod received;
 
 use management::frame::{CommandHeader, SentCommand, SentFrame};
 use management::{NlmeNwkStatusIndication, SendAnswer, Signals, StatusIndicationSlot, frame};
-use nib::{Neighbor, Nib, NwkNeighbor, OptionalIeee, PanId, ShortAddress, neighbor_table};
+use nib::{
+    NO_TIMEOUT_NEGOTIATED, Neighbor, Nib, NwkNeighbor, OptionalIeee, PanId, ShortAddress,
+    neighbor_table,
+};
 use supervision::parent_timer::ParentTimer;
 use supervision::{KeepaliveMethod, OptionalPeriod, TransmitFailures};
 
@@ -15,7 +20,7 @@ use supervision::{KeepaliveMethod, OptionalPeriod, TransmitFailures};
 pub const NO_PENDING_TIMEOUT: u8 = 0xff;
 
 // The node's own part of the state.
-#[derive(Drop)]
+#[derive(Clone, Copy)]
 pub struct Nlme {
     pub nib: Nib,
     // the last sequence number used
@@ -28,7 +33,7 @@ pub struct Nlme {
 }
 
 // A frame for the radio to transmit, and to whom.
-#[derive(Drop)]
+#[derive(Clone, Copy)]
 pub struct Transmission {
     pub pan_id: PanId,
     pub address: ShortAddress,
@@ -36,21 +41,21 @@ pub struct Transmission {
 }
 
 // What the start of a transmission leaves, and what the radio is asked.
-#[derive(Drop)]
+#[derive(Clone, Copy)]
 pub struct Transmitting {
     pub nlme: Nlme,
     pub transmission: Transmission,
 }
 
 // What a tick leaves, and whether the timer expired.
-#[derive(Drop)]
+#[derive(Clone, Copy)]
 pub struct NlmeTicked {
     pub nlme: Nlme,
     pub expired: bool,
 }
 
 // What the outcome of a send by way of the parent leaves, and its answer.
-#[derive(Drop)]
+#[derive(Clone, Copy)]
 pub struct ViaParent {
     pub nlme: Nlme,
     pub answer: SendAnswer,
@@ -108,7 +113,7 @@ impl Nlme {
         ensures { result ≡ negotiation_reset self }
     {
         self.nib.parent_information = 0;
-        self.nib.end_device_timeout = nib::NO_TIMEOUT_NEGOTIATED;
+        self.nib.end_device_timeout = NO_TIMEOUT_NEGOTIATED;
         self.parent_timer.remaining_ms = 0;
         self
     }

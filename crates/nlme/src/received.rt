@@ -12,27 +12,27 @@ use management::{
 use nib::{Neighbor, NeighborTable, Nib, OptionalIeee, ShortAddress, neighbor_table};
 
 // What a frame does to the neighbour table.
-#[derive(Drop)]
+#[derive(Clone, Copy)]
 pub enum TableChange {
     KeepTable,
     RemoveNeighbor(ShortAddress),
 }
 
 // The announcement of this device's leave: the frame, and whether the device rejoins.
-#[derive(Drop)]
+#[derive(Clone, Copy)]
 pub struct LeaveAnnouncement {
     pub transmission: Transmission,
     pub rejoin: bool,
 }
 
 // What follows a frame: the poll or receive is over, with what a single one answers; or a leave is announced.
-#[derive(Drop)]
+#[derive(Clone, Copy)]
 pub enum Then {
     Over(PollAnswer),
     Announce(LeaveAnnouncement),
 }
 
-#[derive(Drop)]
+#[derive(Clone, Copy)]
 pub struct Handled {
     pub nlme: Nlme,
     pub change: TableChange,

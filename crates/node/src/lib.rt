@@ -12,6 +12,8 @@
 // request awaits that outcome; 3 a scan with more than 27 descriptors; 4 one with more than 16 short-addressed ones; 5 a state that no calls lead to (a count
 // above 16, more than 20 polls left, an association with an index past the table); 6 a page for fewer than 816 bytes. Of several the first in the order 5, 1,
 // 2, 3, 4, 6 is given.
+#![tactic(auto)]
+
 ghost use Rattle.std.specs.Prelude.{◌≡◌, false, cond, not, length};
 ghost use Rattle.supervision.specs.Keepalive.{keepalive_interval_ms, keepalive_method, negotiated_poll_interval_ms};
 ghost use Rattle.operation.specs.Operation.{is_idle, association_for, telling, ending};
@@ -49,7 +51,7 @@ use supervision::{KeepaliveMethod, OptionalPeriod};
 const MAX_SHORT_ADDRESSED: usize = MAX_NEIGBOUR_TABLE as usize;
 
 // The state of a node.
-#[derive(Drop)]
+#[derive(Clone, Copy)]
 pub struct State {
     // the node itself, and the operation under way
     pub control: Control,
@@ -60,7 +62,7 @@ pub struct State {
 }
 
 // What a call answers.
-#[derive(Drop)]
+#[derive(Clone, Copy)]
 pub struct Answer {
     // the state for the next call
     pub state: State,
@@ -76,21 +78,21 @@ pub struct Answer {
 }
 
 // The outcome of a scan. A failed one has no list: what stands there is not looked at.
-#[derive(Drop)]
+#[derive(Clone, Copy)]
 pub struct ScanOutcome {
     pub failed: bool,
     pub list: PanDescriptorList,
 }
 
 // The answer to the outcome of a scan, with the confirm of a discovery, which is empty for any other.
-#[derive(Drop)]
+#[derive(Clone, Copy)]
 pub struct ScanAnswer {
     pub answer: Answer,
     pub confirm: NlmeNetworkDiscoveryConfirm,
 }
 
 // The outcome of a poll or a receive.
-#[derive(Drop)]
+#[derive(Clone, Copy)]
 pub enum ReceptionOutcome {
     NoData,
     ReceptionFailed,
@@ -98,7 +100,7 @@ pub enum ReceptionOutcome {
 }
 
 // The answer to a choice of candidates: refusal 0 for none.
-#[derive(Drop)]
+#[derive(Clone, Copy)]
 pub struct Choice {
     pub refusal: u8,
     pub list: CandidateList,
@@ -755,10 +757,8 @@ impl State {
         ensures { result ≡ choose extended_pan_id.0 join_as_router require_permit_joining self }
     {
         if self.is_bad() {
-            return Choice {
-                refusal: 5,
-                list: CandidateList::new(),
-            };
+            let list = CandidateList::new();
+            return Choice { refusal: 5, list };
         }
         let list = candidates::select_candidates(
             self.table,

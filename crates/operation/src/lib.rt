@@ -1,4 +1,6 @@
 // The operation under way, requests to the radio, and what a decision says.
+#![tactic(auto)]
+
 ghost use Rattle.std.specs.Prelude.{◌≡◌};
 ghost use Rattle.operation.specs.Operation.{idle_control, with_nlme, with_polls_left, in_phase, is_idle, decided, telling, asking, announcing_leave, ending, polled, polling, is_discovered};
 ghost use Rattle.operation.specs.declared.RadioRequest.TheVariants.{Transmit};
@@ -13,14 +15,14 @@ use nlme::received::LeaveAnnouncement;
 use nlme::{Nlme, Transmission};
 
 // What a timeout request is sent for.
-#[derive(Drop)]
+#[derive(Clone, Copy)]
 pub enum TimeoutFor {
     Negotiation,
     Keepalive,
 }
 
 // What a received frame is awaited for.
-#[derive(Drop)]
+#[derive(Clone, Copy)]
 pub enum Purpose {
     RejoinResponse,
     SinglePoll,
@@ -29,21 +31,21 @@ pub enum Purpose {
 }
 
 // What a scan is for.
-#[derive(Drop)]
+#[derive(Clone, Copy)]
 pub enum ScanFor {
     Discovery,
     Rejoin,
 }
 
 // A leave that is being announced: what the poll that brought it was for, which goes on afterwards, and its rejoin bit.
-#[derive(Drop)]
+#[derive(Clone, Copy)]
 pub struct Leaving {
     pub purpose: Purpose,
     pub rejoin: bool,
 }
 
 // What a transmission is for.
-#[derive(Drop)]
+#[derive(Clone, Copy)]
 pub enum TransmissionFor {
     RejoinRequest,
     Data,
@@ -53,7 +55,7 @@ pub enum TransmissionFor {
 
 // What the operation under way awaits: nothing, where none is under way;
 // or the outcome of a scan, of an association, of a transmission, or of a poll or a receive.
-#[derive(Drop)]
+#[derive(Clone, Copy)]
 pub enum Phase {
     Idle,
     Scan(ScanFor),
@@ -63,7 +65,7 @@ pub enum Phase {
 }
 
 // The operation under way: what it awaits, and what a rejoin keeps of its request and of its try.
-#[derive(Drop)]
+#[derive(Clone, Copy)]
 pub struct Operation {
     pub phase: Phase,
     pub extended_pan_id: ExtendedPanId,
@@ -77,13 +79,13 @@ pub struct Operation {
 }
 
 // All of the state but the neighbour table and the candidates.
-#[derive(Drop)]
+#[derive(Clone, Copy)]
 pub struct Control {
     pub nlme: Nlme,
     pub operation: Operation,
 }
 
-#[derive(Drop)]
+#[derive(Clone, Copy)]
 pub struct AssociateRequest {
     pub channel: u8,
     pub pan_id: PanId,
@@ -91,7 +93,7 @@ pub struct AssociateRequest {
     pub capabilities: MacCapabilityInformation,
 }
 
-#[derive(Drop)]
+#[derive(Clone, Copy)]
 pub enum RadioRequest {
     Scan(ScanRange),
     Associate(AssociateRequest),
@@ -101,7 +103,7 @@ pub enum RadioRequest {
 }
 
 // What the radio is told without an outcome: the set-channel or set-address note (01, "Join request and confirm").
-#[derive(Drop)]
+#[derive(Clone, Copy)]
 pub enum Note {
     NoNote,
     SetChannel(u8),
@@ -109,7 +111,7 @@ pub enum Note {
 }
 
 // What a call answers.
-#[derive(Drop)]
+#[derive(Clone, Copy)]
 pub enum Step {
     Refused(u8),
     Ask(RadioRequest),
@@ -130,7 +132,7 @@ pub enum Step {
 
 // What a decision does with the candidates.
 // Nothing; the next one is tried; the next one is made the parent and tried; or the one being tried becomes the parent.
-#[derive(Drop)]
+#[derive(Clone, Copy)]
 pub enum Move {
     Stay,
     TakeNext,
@@ -139,7 +141,7 @@ pub enum Move {
 }
 
 // A decision sees no table and no index: it says what is to be written, and the write finds its own index.
-#[derive(Drop)]
+#[derive(Clone, Copy)]
 pub struct Decision {
     pub control: Control,
     // the candidate being tried is no longer a potential parent
@@ -151,7 +153,7 @@ pub struct Decision {
 }
 
 // The polls for a response: whom the next one asks, which is nobody once they are over, and the control part then.
-#[derive(Drop)]
+#[derive(Clone, Copy)]
 pub struct Polling {
     pub parent: Neighbor,
     pub control: Control,

@@ -1,1 +1,2 @@
 // The refusals of every call: this library has no code, only the statement in specs/ and its proof in proofs/.
+#![tactic(auto)]

@@ -5,7 +5,7 @@ use mathlib.Core.List.{List, [], ◌∷◌}
 use Rattle.operation.specs.declared.RadioRequest.{RadioRequest}
 use Rattle.operation.specs.declared.Step.{Step}
 use Rattle.node.specs.Refusals.{refuse}
-use Rattle.node.specs.Calls.{Call, answer, refresh}
+use Rattle.node.specs.Calls.{Call, answer}
 use Rattle.node.specs.declared.State.{State}
 use Rattle.node.specs.declared.Answer.{Answer}
 use Rattle.refusals.proofs.Decisions.{Uses}

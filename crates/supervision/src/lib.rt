@@ -1,4 +1,6 @@
 // Parent supervision: the negotiated timeout, keepalives, and the count of failed sends.
+#![tactic(auto)]
+
 ghost use Rattle.std.specs.Prelude.{◌≡◌, ◌+◌, ◌<◌, [], length, get_or, set};
 ghost use Rattle.lists.specs.Lists.{first_index, change_at};
 ghost use Rattle.lists.specs.Private.{remove_at};
@@ -12,7 +14,7 @@ use crate::parent_timer::ParentTimer;
 use nib::{MAX_NEIGBOUR_TABLE, ShortAddress};
 
 // A period of time, in the unit that its function names, or none.
-#[derive(Drop)]
+#[derive(Clone, Copy)]
 pub enum OptionalPeriod {
     NoPeriod,
     Period(u32),
@@ -70,7 +72,7 @@ pub fn keepalive_interval_ms(end_device_timeout: u8) -> OptionalPeriod
 }
 
 // The keepalive that the parent expects; the source's `None` is `NoKeepalive`.
-#[derive(Drop)]
+#[derive(Clone, Copy)]
 pub enum KeepaliveMethod {
     MacDataPoll,
     TimeoutRequest,
@@ -116,14 +118,14 @@ pub fn negotiated_poll_interval_ms(end_device_timeout: u8, parent_information: u
 pub const MAX_PARENT_TRANSMIT_FAILURES: u8 = 3;
 
 // A neighbour, and how many data sends through it failed since the last that succeeded.
-#[derive(Drop)]
+#[derive(Clone, Copy)]
 pub struct TransmitFailure {
     pub address: ShortAddress,
     pub count: u8,
 }
 
 // The pairs of address and count: the first `count` are in use, the oldest first.
-#[derive(Drop)]
+#[derive(Clone, Copy)]
 pub struct TransmitFailures {
     pub pairs: [TransmitFailure; MAX_NEIGBOUR_TABLE as usize],
     pub count: u8,
@@ -144,14 +146,14 @@ impl TransmitFailures {
 }
 
 // The pairs after one more failure, and the neighbour's count.
-#[derive(Drop)]
+#[derive(Clone, Copy)]
 pub struct Recorded {
     pub failures: TransmitFailures,
     pub total: u8,
 }
 
 // The pairs after a failed send, and whether the link counts as failed.
-#[derive(Drop)]
+#[derive(Clone, Copy)]
 pub struct FailedSend {
     pub failures: TransmitFailures,
     pub link_failed: bool,

@@ -3,13 +3,13 @@ ghost use Rattle.std.specs.Prelude.{◌≡◌, max};
 ghost use Rattle.supervision.specs.Timer.{ticked};
 
 // The milliseconds that remain; at 0 the timer is inactive.
-#[derive(Drop)]
+#[derive(Clone, Copy)]
 pub struct ParentTimer {
     pub remaining_ms: u32,
 }
 
 // What a tick leaves, and whether the timer expired.
-#[derive(Drop)]
+#[derive(Clone, Copy)]
 pub struct Ticked {
     pub timer: ParentTimer,
     pub expired: bool,

@@ -1,11 +1,13 @@
 // Text as slices of bytes: the parts of a line, numbers read off a part, and numbers written into a lent buffer.
+#![tactic(auto)]
+
 ghost use Rattle.std.specs.Prelude.{◌≡◌, [], ◌+◌, ◌-◌, ◌^◌, ◌≤◌, ◌<◌, min, not, ◌||◌, eqb, leb, length, take, drop, get_or};
 ghost use Rattle.std.proofs.lemmas.List.Edits.{sets};
 ghost use Rattle.lists.specs.Lists.{first_index};
 ghost use Rattle.text.specs.Text.{parts, fields, same_text, digit_of, number_from, decimal_of, hex_of, digit_byte, decimal_text, hex_text, right_text};
 
 // A number that is read, or that there is none.
-#[derive(Drop)]
+#[derive(Clone, Copy)]
 pub enum OptionalNumber {
     NoNumber,
     Number(u64),
@@ -92,6 +94,7 @@ pub fn same(a: &[u8], b: &[u8]) -> bool
 }
 
 // The value of a digit, and 16 for any other byte.
+#[tactic(auto, unfolding(crate::specs::Text::digit_of))]
 fn digit(b: u8) -> u64
     ensures { result ≡ digit_of b }
 {
@@ -137,6 +140,7 @@ fn has_leading_zero(f: &[u8]) -> bool
 }
 
 // The decimal number that a text is.
+#[tactic(auto, unfolding(crate::specs::Text::decimal_of))]
 pub fn decimal(f: &[u8], limit: u32) -> OptionalNumber
     ensures { result ≡ decimal_of limit f.now }
 {
@@ -150,6 +154,7 @@ pub fn decimal(f: &[u8], limit: u32) -> OptionalNumber
 }
 
 // The hexadecimal number of so many digits that a text is.
+#[tactic(auto, unfolding(crate::specs::Text::hex_of))]
 pub fn hex(f: &[u8], digits: usize) -> OptionalNumber
     ensures { result ≡ hex_of digits f.now }
 {
@@ -184,6 +189,7 @@ pub fn write(out: &mut [u8], at: usize, s: &[u8]) -> usize
 }
 
 // The byte of a digit below 16.
+#[tactic(auto, unfolding(crate::specs::Text::digit_byte))]
 fn digit_byte(d: u8) -> u8
     requires { d < 16 }
     ensures { result ≡ digit_byte d }

@@ -1,4 +1,6 @@
 // A trace answered line by line: a line read, its call made, and what is said of it printed. A line of kind 255 is no line.
+#![tactic(auto)]
+
 ghost use Rattle.std.specs.Prelude.{◌≡◌, ◌+◌, ◌≤◌, ◌<◌, min, length, get_or};
 ghost use mathlib.Core.List.{[], ◌∷◌, map, flat_map};
 ghost use Rattle.std.proofs.lemmas.List.Edits.{sets};
@@ -75,7 +77,7 @@ mod kind;
 mod word;
 
 // The session after the lines so far, how many they were, whether the last of them was of the format, and how many bytes it printed.
-#[derive(Drop)]
+#[derive(Clone, Copy)]
 pub struct Run {
     pub session: Session,
     pub number: u32,

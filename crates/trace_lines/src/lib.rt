@@ -1,4 +1,6 @@
 // Lines of a trace as numbers: read from a slice, and written into a lent buffer.
+#![tactic(auto)]
+
 ghost use Rattle.std.specs.Prelude.{◌≡◌, [], ◌∷◌, ◌++◌, cond, true, ◌≤◌, min, length, get_or};
 ghost use Rattle.std.proofs.lemmas.List.Edits.{sets};
 ghost use Rattle.text.specs.Text.{bytes, parts, fields, same_text, hex_of, hex_text};
@@ -20,7 +22,7 @@ const WORDS: [u8; 457] =
     *b"e node f refused scan associate transmit poll receive setchannel setaddress reset discovered d discoveryfailed confirm sendanswer pollanswer negotiated keepaliveanswer expired leaveindication statusindication nothing candidates rejoinresponse timeoutresponse end data rejoinrequest timeoutrequest leave Success InvalidRequest NotPermitted NoNetworks PanAtCapacity PanAccessDenied MacError Ok NotJoined ParentLinkFailure Data Nothing Undecodable 1 0 bad done";
 
 // A line: its kind, how many fields it has, and the numbers in them. `dash` says that the field for an IEEE address is `-`.
-#[derive(Drop)]
+#[derive(Clone, Copy)]
 pub struct Line {
     pub kind: u8,
     pub count: u8,
@@ -76,6 +78,7 @@ fn read_or_dash(f: &[u8]) -> OptionalNumber
 }
 
 // The number in a field, by its letter.
+#[tactic(auto, unfolding(crate::specs::TraceLines::number_of))]
 fn read_number(letter: u8, f: &[u8]) -> OptionalNumber
     ensures { result ≡ number_of letter f.now }
 {
@@ -175,6 +178,7 @@ fn read_by(table: &[u8], line: &[u8]) -> Line
 }
 
 // The numbers in the fields of a line; of a line that is none of a trace, kind 255.
+#[tactic(auto, unfolding(crate::specs::TraceLines::line_of))]
 pub fn read_line(line: &[u8]) -> Line
     ensures { result ≡ line_of line.now }
 {
@@ -199,6 +203,7 @@ fn write_or_dash(out: &mut [u8], at: usize, n: u64, dash: bool) -> usize
 }
 
 // Writes a field by its letter.
+#[tactic(auto, unfolding(crate::specs::TraceLines::field_text))]
 fn write_field(out: &mut [u8], at: usize, letter: u8, n: u64, dash: bool) -> usize
     ensures { (result ≡ length (field_text dash letter n)) × (out.new ≡ sets out.old at (field_text dash letter n)) }
 {
@@ -268,6 +273,7 @@ fn write_by(out: &mut [u8], at: usize, letters: &[u8], line: Line) -> usize
 }
 
 // Writes a line at a place, as far as it fits, and returns its length, which is at most 420.
+#[tactic(auto, unfolding(crate::specs::TraceLines::line_text))]
 pub fn write_line(out: &mut [u8], at: u16, line: Line) -> usize
     ensures { (result ≡ length (line_text line)) × (out.new ≡ sets out.old at (line_text line)) }
 {

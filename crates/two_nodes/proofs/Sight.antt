@@ -13,7 +13,7 @@ use Rattle.lists.proofs.First.{change-first}
 use Rattle.lists.proofs.Maps.{change-past}
 use Rattle.lists.proofs.Order.{All-of, All-map}
 use Rattle.lists.proofs.Indexes.{in-indexes}
-use Rattle.lists.specs.Lists.{indexes_from, select, first_index, change_at, some, All}
+use Rattle.lists.specs.Lists.{indexes_from, select, first_index, change_at, All}
 use Rattle.lists.proofs.Conditions.{split}
 use Rattle.lists.proofs.Ranks.{is_marked, rank, change_ranked, marked-below, rank_below, at-rank, select-select, marks-map, marks-change, select-change, ranked-past, rank-none, select-map, marked-of, indexes-rank, indexes-map, sort-same}
 use Rattle.nib.specs.Neighbors.{PARENT, NONE, entry_at, blank}

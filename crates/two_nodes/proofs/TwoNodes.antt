@@ -60,9 +60,9 @@ near-self n s i h =
 
 runs : (n : ℕ) → (n ≡ 0 → ⊥) → {s t : State} → Near n s t → {cs ds : List Call} → AlikeCalls n cs ds → Listed n s cs → run s cs ≡ run t ds
 runs n some r none w = refl
-runs n some r (more l ls) w =
+runs n some {s = s} {t = t} r (more {c = c} {d = d} {cs = cs} {ds = ds} l ls) w =
     let k = step-good n some r l w.0 in
-    ap₂ (λ (x : Shown) (xs : List Shown). x ∷ xs) k.shown-same (runs n some k.states ls w.1)
+    ap₂ (λ (x : Shown) (xs : List Shown). x ∷ xs) k.shown-same (runs n some {s = (answer s c).state} {t = (answer t d).state} k.states ls w.1)
 
 -- two nodes in one idle state, given the same calls but for the beacons of other networks than n, show the same after each call
 pub two-nodes : TwoNodes

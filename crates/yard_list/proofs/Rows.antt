@@ -57,6 +57,9 @@ rows_long es p (i ∷ is) =
 pub cell-long : (n end : ℕ) → length (cell (decimal_text n) end) ≤ 11
 cell-long n end = omega (arith, length-append (decimal_text n) (end ∷ []), decimal-long n)
 
+-- how long what is written is, for the sums of a line's places
+pub ruleset sizes = (decimal-long, cell-long)
+
 -- what stands at an index of a CandidateList
 pub item-at : (c : CandidateList) (i : ℕ) → length c.indexes ≡ 16 → c.count ≤ 16 → i < c.count → (i < length (items_of c)) × (get_or (items_of c) i 0 ≡ get_or c.indexes i 0)
 item-at c i n f h = (omega (arith, length-take c.count c.indexes), get_or-take c.count c.indexes i 0 h)

@@ -1,4 +1,6 @@
 // The yard list: a request and neighbour entries read as lines of text, and the candidates written as lines of text.
+#![tactic(auto)]
+
 ghost use Rattle.std.specs.Prelude.{◌≡◌, [], ◌+◌, ◌-◌, ◌≤◌, ◌<◌, eqb, length, take, drop, get_or};
 ghost use Rattle.std.proofs.lemmas.List.Edits.{sets};
 ghost use Rattle.lists.specs.Lists.{over};
@@ -18,7 +20,7 @@ use text::OptionalNumber;
 const MAX_ENTRIES: usize = MAX_NEIGBOUR_TABLE as usize;
 
 // What a field holds: a line's first word, a hexadecimal number of so many digits, or a decimal number of at most so much.
-#[derive(Drop)]
+#[derive(Clone, Copy)]
 enum Form {
     RequestWord,
     EntryWord,
@@ -27,7 +29,7 @@ enum Form {
 }
 
 // Line 1, or a later line.
-#[derive(Drop)]
+#[derive(Clone, Copy)]
 enum Kind {
     Request,
     Entry,
@@ -140,6 +142,7 @@ fn is_line(line: &[u8], kind: Kind) -> bool
 }
 
 // Whether a line with k lines before it is good.
+#[tactic(auto, unfolding(crate::specs::YardList::is_good))]
 fn is_good(line: &[u8], k: usize) -> bool
     ensures { result ≡ is_good k line.now }
 {
@@ -196,6 +199,7 @@ fn flag_at(line: &[u8], k: usize) -> bool
 }
 
 // The neighbour entry of a line.
+#[tactic(auto, unfolding(crate::specs::YardList::entry_of))]
 fn read_entry(line: &[u8]) -> NwkNeighbor
     ensures { result ≡ entry_of (fields line.now) }
 {
@@ -250,6 +254,7 @@ fn read_table(input: &[u8], count: usize) -> NeighborTable
 }
 
 // The candidates of a request among the entries of a table.
+#[tactic(auto, unfolding(crate::specs::YardList::chosen))]
 fn choose(line: &[u8], table: NeighborTable) -> CandidateList
     ensures { result ≡ list_of (chosen (fields line.now) (entries_of table)) }
 {
@@ -267,6 +272,7 @@ fn choose(line: &[u8], table: NeighborTable) -> CandidateList
 }
 
 // Writes a column with a number.
+#[tactic(auto, using(crate::proofs::Rows::sizes))]
 fn write_number(out: &mut [u8], at: usize, n: u8, end: u8) -> usize
     requires { at ≤ 1000 }
     ensures { (result ≡ length (cell (decimal_text n) end)) × (out.new ≡ sets out.old at (cell (decimal_text n) end)) }
@@ -287,6 +293,7 @@ fn write_address(out: &mut [u8], at: usize, address: u16) -> usize
 }
 
 // Writes a candidate's line.
+#[tactic(auto, using(crate::proofs::Rows::sizes))]
 fn write_row(out: &mut [u8], at: usize, place: u8, index: u8, e: NwkNeighbor) -> usize
     requires { at ≤ 900 }
     ensures { (result ≡ length (row_of e place index)) × (out.new ≡ sets out.old at (row_of e place index)) }
@@ -337,6 +344,7 @@ fn write_list(input: &[u8], ended: usize, out: &mut [u8]) -> usize
 }
 
 // Writes that a line is bad.
+#[tactic(auto, using(crate::proofs::Rows::sizes), unfolding(crate::specs::YardList::bad_text))]
 fn write_bad(out: &mut [u8], number: usize) -> usize
     requires { number ≤ 18 }
     ensures { (result ≡ length (bad_text number)) × (out.new ≡ sets out.old 0 (bad_text number)) }

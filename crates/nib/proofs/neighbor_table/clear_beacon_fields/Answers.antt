@@ -1,0 +1,7 @@
+-- `clear_beacon_fields` meets its contract. Assumes nothing.
+use Rattle.nib.specs.NeighborTable.{all_cleared}
+use Rattle.nib.proofs.neighbor_table.clear_beacon_fields.Goals as goal
+
+pub returns : goal.returns
+unfolding all_cleared
+returns c = c.change_all.ensures

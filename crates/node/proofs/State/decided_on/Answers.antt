@@ -1,0 +1,34 @@
+-- `State::decided_on` meets its contract. Assumes nothing.
+use mathlib.Core.Path.{◌≡◌, sym, ap, ◌∙◌}
+use mathlib.Core.Bool.{false}
+use lib.ListN.{length}
+use Rattle.node.specs.declared.State.{State}
+use Rattle.node.specs.Looks.{entries, moved, potential_cleared, answered, finish}
+use Rattle.node.proofs.Writes.{clear-is, keep-is, clear-long, stay-is, take-is, adopt-is, join_is}
+use Rattle.node.proofs.State.decided_on.Goals as goal
+use Rattle.node.proofs.State.decided_on.Goals.{then-decision, else-decision, in-Stay, in-TakeNext, in-AdoptNext, in-JoinTried}
+
+-- `after-clear`: the state once the candidate being tried is no potential parent, if so decided.
+-- `after-move`: the state once the candidates are as decided
+pub returns : goal.returns
+unfolding finish
+returns c =
+    let a = c.args in
+    let n = c.len-count.result in
+    let after-clear : c.if-decision.self ≡ potential_cleared a.decision.clear_potential_parent a.self =
+    elim c.if-decision.branch [
+      | then-decision w ↦ w.self-is ∙ clear-is a.decision.clear_potential_parent a.self n w.tried_index-index.result w.clear_potential_parent-self.result w.if-decision.true c.len-count.ensures w.tried_index-index.ensures w.clear_potential_parent-self.ensures
+      | else-decision w ↦ w.self-is ∙ keep-is a.decision.clear_potential_parent a.self w.if-decision.false
+    ] in
+    let s = c.if-decision.self in
+    let m = a.decision.candidate in
+    let h : n ≡ length (entries s) =
+    c.len-count.ensures ∙ sym (clear-long a.decision.clear_potential_parent a.self) ∙ ap (λ (x : State). length (entries x)) (sym after-clear) in
+    let after-move : c.match-candidate.self ≡ moved m s =
+    elim c.match-candidate.branch [
+      | in-Stay w ↦ w.self-is ∙ stay-is m s w.in-Stay.is
+      | in-TakeNext w ↦ w.self-is ∙ take-is m s n w.take_next-self.result w.in-TakeNext.is h w.take_next-self.ensures
+      | in-AdoptNext w ↦ w.self-is ∙ adopt-is m s n w.next_index-index.result w.adopt_parent-self.result w.take_next-self-in-AdoptNext.result w.in-AdoptNext.is h w.next_index-index.ensures w.adopt_parent-self.ensures w.take_next-self-in-AdoptNext.ensures
+      | in-JoinTried w ↦ w.self-is ∙ join_is m s n w.tried_index-index-in-JoinTried.result w.mark_parent-self.result w.clear_beacon_fields-self.result w.in-JoinTried.is h w.tried_index-index-in-JoinTried.ensures w.mark_parent-self.ensures w.clear_beacon_fields-self.ensures
+    ] in
+    ap (λ (x : State). answered false x a.decision) (after-move ∙ ap (moved m) after-clear)
