@@ -54,11 +54,12 @@ def harness():
 
 
 def prove(name, root=ROOT):
-    """The command of a Rattle program of the repository, proved and built."""
-    done = subprocess.run(['rt', 'check', name], cwd=root, stdout=subprocess.PIPE, stderr=subprocess.STDOUT, text=True)
+    """The command of a Rattle program of the repository, proved and built: `rt run` leaves it in the crate's out/, and runs it, here on no input."""
+    folder = os.path.join(root, 'crates', name)
+    done = subprocess.run(['rt', 'run'], cwd=folder, stdin=subprocess.DEVNULL, stdout=subprocess.DEVNULL, stderr=subprocess.PIPE, text=True)
     if done.returncode:
-        stop(f'{name} is not proved\n{done.stdout}')
-    return [os.path.join(root, 'target/bin', name)]
+        stop(f'{name} is not proved\n{done.stderr}')
+    return [os.path.join(folder, 'out', name)]
 
 
 def nodetrace():

@@ -9,14 +9,23 @@ STATED = ('Statement', 'Bound', 'Polls', 'OwnRecord', 'MarkedCases')
 SKIPPED = re.compile(r'\s*(--|//|use |ghost use |(pub )?mod |$)')
 
 
+# an import that goes on over several lines
+LONG = re.compile(r'^(?:ghost |pub )*use [^;\n]*\n(?:[^;\n]*\n)*[^;\n]*;\n', re.M)
+
+
+def read(file):
+    with open(file, encoding='utf-8') as it:
+        return LONG.sub('', it.read()) if file.endswith('.rt') else it.read()
+
+
 def lines(files):
-    return sum(not SKIPPED.match(line) for f in files for line in open(f))
+    return sum(not SKIPPED.match(line) for f in files for line in read(f).split('\n'))
 
 
 def types(files):
     """The lines of the types that are declared in code."""
     return sum(sum(not SKIPPED.match(line) for line in m[0].split('\n'))
-               for f in files for m in re.finditer(r'^(?:pub )?(?:struct|enum) [^;{]*(?:;|\{.*?^\})', open(f).read(), re.M | re.S))
+               for f in files for m in re.finditer(r'^(?:pub )?(?:struct|enum) [^;{]*(?:;|\{.*?^\})', read(f), re.M | re.S))
 
 
 specs = [f for f in glob.glob(f'{ROOT}/crates/*/specs/*.antt') if os.path.basename(f) not in ('Lib.antt', 'Private.antt')]
@@ -32,6 +41,6 @@ print('definitions of the yard list\t', lines(of_lists))
 print('definitions of traces\t', lines(of_traces))
 print('definitions of what programs read and write\t', lines(of_programs))
 print('types in the code\t', types(code))
-print('public functions, each with its promise\t', sum(len(re.findall(r'^\s*pub fn ', open(f).read(), re.M)) for f in code))
+print('public functions, each with its promise\t', sum(len(re.findall(r'^\s*pub fn ', read(f), re.M)) for f in code))
 print('nobody has to believe: code\t', lines(code))
 print('nobody has to believe: proofs, and what only private functions say\t', lines(glob.glob(f'{ROOT}/crates/*/proofs/**/*.antt', recursive=True) + glob.glob(f'{ROOT}/crates/*/specs/Private.antt')))
