@@ -1,5 +1,5 @@
 -- Laws of the candidate list: which indexes are in it, how many, that none is twice, and their order. Assumes nothing.
-use Rattle.std.proofs.Common.{◌≡◌, ℕ, ◌<◌, ◌≤◌, Bool, true, false, ◌&&◌, ◌||◌, eqb, ◌⊎◌, ◌↔◌, List, length, get_or, sym, refl, ap, inl, inr, ⊎_elim, arith, eq-eqb, ne_eqb, eqb-true, le-leb, leb-true}
+use Rattle.std.proofs.Common.{Option, Some, None, ◌≡◌, ℕ, ◌<◌, ◌≤◌, Bool, true, false, ◌&&◌, ◌||◌, eqb, ◌⊎◌, ◌↔◌, List, length, get_or, sym, refl, ap, inl, inr, ⊎_elim, arith, eq-eqb, ne_eqb, eqb-true, le-leb, leb-true}
 use mathlib.Core.Bool.{false≢true, or-true}
 use borrow.Author.Tests.{eqb-false}
 use Rattle.lists.specs.Lists.{indexes_from, All}
@@ -10,8 +10,6 @@ use Rattle.nib.specs.Neighbors.{blank}
 use Rattle.nib.specs.declared.NwkNeighbor.{NwkNeighbor}
 use Rattle.candidates.specs.UpdateIds.{of_network, permits, potential, newest}
 use Rattle.candidates.specs.Candidates.{matches, capacity, low_cost, current, is_id, eligible, Candidate, depth_at, candidates}
-use Rattle.candidates.specs.declared.Newest.{Newest}
-use Rattle.candidates.specs.declared.Newest.TheVariants.{Nothing, Id}
 use Rattle.candidates.proofs.Chosen.{in-chosen, chosen-few}
 
 -- `eligible` as facts
@@ -23,9 +21,9 @@ either : (a b : Bool) → a || b ≡ true → (a ≡ true) ⊎ (b ≡ true)
 either true b h = inl refl
 either false b h = inr h
 
-is-id : (id : ℕ) (m : Newest) → is_id id m ≡ true → m ≡ Id id
-is-id id Nothing h = absurd (false≢true h)
-is-id id (Id best) h = ap Id (sym (eqb-true id best h))
+is-id : (id : ℕ) (m : Option ℕ) → is_id id m ≡ true → m ≡ Some id
+is-id id None h = absurd (false≢true h)
+is-id id (Some best) h = ap Some (sym (eqb-true id best h))
 
 asked : (permit : Bool) (e : NwkNeighbor) → permits permit e ≡ true → permit ≡ true → e.permit_joining ≡ true
 asked true e h t = h

@@ -1,5 +1,5 @@
 -- What the candidates for one network are made of depends on the entries of that network alone. Assumes nothing.
-use Rattle.std.proofs.Common.{◌≡◌, ℕ, Bool, true, false, cond, ◌&&◌, eqb, List, map, sym, refl, ap, ◌∙◌, eq-eqb, ne_eqb, eqb-true}
+use Rattle.std.proofs.Common.{Option, None, ◌≡◌, ℕ, Bool, true, false, cond, ◌&&◌, eqb, List, map, sym, refl, ap, ◌∙◌, eq-eqb, ne_eqb, eqb-true}
 use mathlib.Core.Path.{fun_ext}
 use mathlib.Core.List.{foldl, foldl-map}
 use Rattle.lists.specs.Lists.{select, sort_by}
@@ -9,8 +9,6 @@ use Rattle.lists.proofs.Ranks.{select-map}
 use Rattle.nib.specs.declared.NwkNeighbor.{NwkNeighbor}
 use Rattle.candidates.specs.UpdateIds.{of_network, permits, potential, replaced, newest}
 use Rattle.candidates.specs.Candidates.{capacity, low_cost, is_id, eligible, ordered}
-use Rattle.candidates.specs.declared.Newest.{Newest}
-use Rattle.candidates.specs.declared.Newest.TheVariants.{Nothing}
 
 -- an order by a key of f's value goes through f
 pub map-ordered : {A B : Type 0} (f : A → B) (k : B → ℕ) (profile : ℕ) (l : List A) → map f (ordered profile (λ y. k (f y)) l) ≡ ordered profile k (map f l)
@@ -30,21 +28,21 @@ pub newest-own : (permit : Bool) (n : ℕ) (f : NwkNeighbor → NwkNeighbor)
     → (es v : List NwkNeighbor) → network_of n v ≡ map f (network_of n es) → newest permit n v ≡ newest permit n es
 unfolding newest
 newest-own permit n f part id es v h =
-    ap (foldl step Nothing) (select-both (of_network n) has v)
-    ∙ ap (λ (l : List NwkNeighbor). foldl step Nothing (select has l)) h
-    ∙ ap (foldl step Nothing) (select-map f has has part (network_of n es))
-    ∙ foldl-map f step (select has (network_of n es)) Nothing
-    ∙ ap (λ (s : Newest → NwkNeighbor → Newest). foldl s Nothing (select has (network_of n es))) (fun_ext (λ best. fun_ext (λ e. ap (replaced best) (id e))))
-    ∙ ap (foldl step Nothing) (sym (select-both (of_network n) has es))
+    ap (foldl step None) (select-both (of_network n) has v)
+    ∙ ap (λ (l : List NwkNeighbor). foldl step None (select has l)) h
+    ∙ ap (foldl step None) (select-map f has has part (network_of n es))
+    ∙ foldl-map f step (select has (network_of n es)) None
+    ∙ ap (λ (s : Option ℕ → NwkNeighbor → Option ℕ). foldl s None (select has (network_of n es))) (fun_ext (λ best. fun_ext (λ e. ap (replaced best) (id e))))
+    ∙ ap (foldl step None) (sym (select-both (of_network n) has es))
   where
     has : NwkNeighbor → Bool
     has e = permits permit e && potential e
 
-    step : Newest → NwkNeighbor → Newest
+    step : Option ℕ → NwkNeighbor → Option ℕ
     step best e = replaced best e.update_id
 
 -- the condition on an entry of a network, at that network's newest update id
-abbrev pub fit : Bool → Bool → Newest → NwkNeighbor → Bool
+abbrev pub fit : Bool → Bool → Option ℕ → NwkNeighbor → Bool
 fit router permit best e = permits permit e && capacity router e && low_cost e && potential e && is_id e.update_id best
 
 module _ (router permit : Bool) (n : ℕ) (some : n ≡ 0 → ⊥) (es : List NwkNeighbor) where

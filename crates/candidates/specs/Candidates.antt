@@ -1,14 +1,13 @@
 -- The candidate list (01, "Candidate list"; Zigbee 3.6.1.4.1.1 for a join, 3.6.1.4.2 for a rejoin).
 -- A request has a stack profile, the wanted role (`router`, else end device), whether it asks that joining is permitted (`permit`), and an extended PAN id n.
 -- `es` is the list of a table's entries.
-use Rattle.std.specs.Prelude.{◌≡◌, ℕ, ◌≤◌, Bool, true, false, cond, ◌&&◌, ◌||◌, ◌⊎◌, List, length, take, replicate, ◌==◌, nat_le, slice_index_or}
+use Rattle.std.specs.Prelude.{Option, Some, None, ◌≡◌, ℕ, ◌≤◌, Bool, true, false, cond, ◌&&◌, ◌||◌, ◌⊎◌, List, length, take, replicate, ◌==◌, nat_le, slice_index_or}
 use Rattle.lists.specs.Lists.{indexes_from, sort_by, over}
 use Rattle.nib.specs.Identifiers.{link_cost}
 use Rattle.nib.specs.Neighbors.{blank}
 use Rattle.nib.specs.declared.NwkNeighbor.{NwkNeighbor}
 use Rattle.candidates.specs.UpdateIds.{of_network, permits, potential, newest}
 use Rattle.candidates.specs.declared.CandidateList.{CandidateList}
-use Rattle.candidates.specs.declared.Newest.{Newest}
 
 -- The six conditions on an entry of 01, "Candidate list", one by one; `permits` and `potential` stand in UpdateIds.antt.
 
@@ -25,9 +24,9 @@ abbrev pub low_cost : NwkNeighbor → Bool
 low_cost e = nat_le (link_cost e.lqi) 3
 
 -- an id is the newest one
-abbrev pub is_id : ℕ → Newest → Bool
-is_id id Newest.Nothing = false
-is_id id (Newest.Id best) = id == best
+abbrev pub is_id : ℕ → Option ℕ → Bool
+is_id id None = false
+is_id id (Some best) = id == best
 
 -- update id equal to the newest of its network
 abbrev pub current : Bool → List NwkNeighbor → NwkNeighbor → Bool
@@ -66,4 +65,4 @@ pub record Candidate (router permit : Bool) (n : ℕ) (es : List NwkNeighbor) (e
   pub room : capacity router e ≡ true
   pub cost : link_cost e.lqi ≤ 3
   pub parent : e.potential_parent ≡ 1
-  pub newest_id : newest permit e.extended_pan_id.0 es ≡ Newest.Id e.update_id
+  pub newest_id : newest permit e.extended_pan_id.0 es ≡ Some e.update_id

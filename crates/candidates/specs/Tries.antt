@@ -1,12 +1,11 @@
 -- The candidates of an operation: chosen, being tried, and next (01, "Join request and confirm"; Zigbee 3.6.1.4.1.1 for a join, 3.6.1.4.2 for a rejoin).
 -- `es` is the list of the table's entries.
-use Rattle.std.specs.Prelude.{ℕ, ◌+◌, ◌-◌, min, Bool, cond, not, ltb, List, length, drop, ◌==◌, nat_lt, slice_index_or}
+use Rattle.std.specs.Prelude.{Option, ℕ, ◌+◌, ◌-◌, min, Bool, cond, not, ltb, List, length, drop, ◌==◌, nat_lt, slice_index_or}
 use Rattle.lists.specs.Lists.{first_index, some}
 use Rattle.nib.specs.Identifiers.{bit}
 use Rattle.nib.specs.Neighbors.{entry_at}
 use Rattle.nib.specs.declared.CapabilityInformation.{CapabilityInformation}
 use Rattle.nib.specs.declared.NwkNeighbor.{NwkNeighbor}
-use Rattle.nib.specs.declared.Neighbor.{Neighbor}
 use Rattle.nib.specs.NeighborTable.{parent_of, seen_in, marked, adopted, all_cleared, potential_cleared_at}
 use Rattle.candidates.specs.Candidates.{candidates, items_of, list_of}
 use Rattle.candidates.specs.declared.tries.Candidates.{Candidates}
@@ -18,14 +17,14 @@ chosen_from es profile permit n i = record { list = list_of (candidates profile 
 -- Looking. Each entry is seen as commands are addressed to it
 
 -- the parent
-unfoldable pub parent_in : List NwkNeighbor → Neighbor
+unfoldable pub parent_in : List NwkNeighbor → Option NwkNeighbor
 parent_in es = seen_in es (parent_of es)
 
 -- the index being tried; n, the number of entries, where there is none
 unfoldable pub tried_index : ℕ → Candidates → ℕ
 tried_index n c = cond (c.taken == 0) n (slice_index_or (items_of c.list) (c.taken - 1) n)
 
-unfoldable pub tried_in : List NwkNeighbor → Candidates → Neighbor
+unfoldable pub tried_in : List NwkNeighbor → Candidates → Option NwkNeighbor
 tried_in es c = seen_in es (entry_at es (tried_index (length es) c))
 
 -- the indexes still to be tried
@@ -40,7 +39,7 @@ skipped n c = first_index (λ i. ltb i n) (to_try c)
 unfoldable pub next_index : ℕ → Candidates → ℕ
 next_index n c = slice_index_or (to_try c) (skipped n c) n
 
-unfoldable pub next_in : List NwkNeighbor → Candidates → Neighbor
+unfoldable pub next_in : List NwkNeighbor → Candidates → Option NwkNeighbor
 next_in es c = seen_in es (entry_at es (next_index (length es) c))
 
 -- "an index being tried or still to be tried .. is not below the neighbour count" n (01, "When a call is turned down")

@@ -1,9 +1,8 @@
 -- The newest update id of a network (01, "Candidate list"; Zigbee 3.6.1.4.1.1, where the id is a counter that wraps back to 0).
-use Rattle.std.specs.Prelude.{ℕ, ◌+◌, ◌-◌, ◌%◌, Bool, true, cond, ◌&&◌, List, ℤ, pos, negsuc, ◌==◌, int_lt, nat_lt}
+use Rattle.std.specs.Prelude.{Option, Some, None, ℕ, ◌+◌, ◌-◌, ◌%◌, Bool, true, cond, ◌&&◌, List, ℤ, pos, negsuc, ◌==◌, int_lt, nat_lt}
 use mathlib.Core.List.{foldl}
 use Rattle.lists.specs.Lists.{select}
 use Rattle.nib.specs.declared.NwkNeighbor.{NwkNeighbor}
-use Rattle.candidates.specs.declared.Newest.{Newest}
 
 -- the 8-bit wrapping difference of two update ids
 abbrev pub difference : ℕ → ℕ → ℕ
@@ -30,9 +29,9 @@ abbrev pub potential : NwkNeighbor → Bool
 potential e = e.potential_parent == 1
 
 -- a later id replaces the best so far if it is newer
-abbrev pub replaced : Newest → ℕ → Newest
-replaced Newest.Nothing id = Newest.Id id
-replaced (Newest.Id best) id = cond (newer id best) (Newest.Id id) (Newest.Id best)
+abbrev pub replaced : Option ℕ → ℕ → Option ℕ
+replaced None id = Some id
+replaced (Some best) id = cond (newer id best) (Some id) (Some best)
 
 -- an entry has a part in the newest id of network n: it is of that network, with potential parent 1 (and permitted, for a join).
 -- Capacity and LQI play no part in it
@@ -40,5 +39,5 @@ abbrev pub has_part : Bool → ℕ → NwkNeighbor → Bool
 has_part permit n e = of_network n e && (permits permit e && potential e)
 
 -- "newest" (01, "Candidate list"): the update ids of the entries that have a part, taken left to right
-unfoldable pub newest : Bool → ℕ → List NwkNeighbor → Newest
-newest permit n es = foldl (λ best e. replaced best e.update_id) Newest.Nothing (select (has_part permit n) es)
+unfoldable pub newest : Bool → ℕ → List NwkNeighbor → Option ℕ
+newest permit n es = foldl (λ best e. replaced best e.update_id) None (select (has_part permit n) es)

@@ -2,6 +2,8 @@
 // The numbers are 0 to 100,000, each power of ten with the number before and behind it, and 4,294,967,295.
 #![tactic(auto)]
 
+use filter::Failed;
+
 const NAME: [u8; 8] = *b"decimals";
 
 // Above 100,000: the powers of ten, each with the number before and behind it, and the greatest number of 32 bits.
@@ -22,13 +24,6 @@ const NUMBERS: [u32; 14] = [
     4_294_967_295,
 ];
 
-// How many numbers were written, and how many of them otherwise than by division.
-#[derive(Clone, Copy)]
-struct Tally {
-    written: u32,
-    otherwise: u32,
-}
-
 // The byte at a place among bytes `#` where digits are written from byte 4 on, right-aligned in so many characters.
 fn expected_at(digits: &[u8], width: usize, i: usize) -> u8 {
     if i < 4 {
@@ -47,93 +42,73 @@ fn expected_at(digits: &[u8], width: usize, i: usize) -> u8 {
 
 // Whether these bytes are the expected ones.
 fn is_expected(bytes: &[u8], digits: &[u8], width: usize) -> bool {
-    for (i, byte) in bytes.iter().enumerate() {
-        if *byte != expected_at(digits, width, i) {
-            return false;
-        }
-    }
-    true
+    bytes
+        .iter()
+        .enumerate()
+        .all(|(i, byte)| *byte == expected_at(digits, width, i))
 }
 
 // Whether a number is written as these digits.
 fn is_left(n: u32, digits: &[u8]) -> bool {
     let mut bytes = [b'#'; 20];
-    if text::write_decimal(&mut bytes, 4, n) != digits.len() {
-        return false;
-    }
-    is_expected(&bytes, digits, digits.len())
+    text::write_decimal(&mut bytes, 4, n) == digits.len()
+        && is_expected(&bytes, digits, digits.len())
 }
 
 // Whether a number is written as these digits, right-aligned in so many characters.
 fn is_right(n: u32, digits: &[u8], width: usize) -> bool {
     let mut bytes = [b'#'; 20];
-    if text::write_decimal_right(&mut bytes, 4, n, width) != width {
-        return false;
-    }
-    is_expected(&bytes, digits, width)
+    text::write_decimal_right(&mut bytes, 4, n, width) == width
+        && is_expected(&bytes, digits, width)
 }
 
 // Whether a number is written as by division, at the left, and right-aligned in ten characters and in three.
 fn is_alike(n: u32) -> bool {
     let mut digits = [0u8; 20];
-    let count = io::decimal(n as u64, &mut digits);
-    if !is_left(n, &digits[..count]) {
-        return false;
-    }
-    if !is_right(n, &digits[..count], 10) {
-        return false;
-    }
-    is_right(n, &digits[..count], 3)
+    let count = io::decimal(u64::from(n), &mut digits);
+    let divided = &digits[..count];
+    is_left(n, divided) && is_right(n, divided, 10) && is_right(n, divided, 3)
 }
 
 // Prints a number as by division, on a line of its own.
-fn print_divided(rt: &HostRuntime, n: u32) {
+fn print_divided(rt: &HostRuntime, n: u32) -> Result<(), Failed> {
     let mut digits = [0u8; 20];
-    let count = io::decimal(n as u64, &mut digits);
-    filter::write(rt, &NAME, &digits[..count]);
-    filter::write(rt, &NAME, b"\n");
+    let count = io::decimal(u64::from(n), &mut digits);
+    filter::write(rt, &NAME, &digits[..count])?;
+    filter::write(rt, &NAME, b"\n")
 }
 
-// Writes a number; one that is written otherwise is printed as by division.
-fn tried(rt: &HostRuntime, tally: Tally, n: u32) -> Tally {
-    let mut next = tally;
-    next.written = next.written.wrapping_add(1);
-    if !is_alike(n) {
-        print_divided(rt, n);
-        next.otherwise = next.otherwise.wrapping_add(1);
+// How many numbers were written, and how many of them otherwise than by division.
+#[derive(Clone, Copy, Default)]
+struct Tally {
+    written: u32,
+    otherwise: u32,
+}
+
+impl Tally {
+    // Writes a number; one that is written otherwise is printed as by division.
+    fn try_number(&mut self, rt: &HostRuntime, n: u32) {
+        self.written = self.written.wrapping_add(1);
+        if !is_alike(n) {
+            let _ = print_divided(rt, n);
+            self.otherwise = self.otherwise.wrapping_add(1);
+        }
     }
-    next
-}
 
-fn up_to_100_000(rt: &HostRuntime, begun: Tally) -> Tally {
-    let mut tally = begun;
-    for n in 0..100_001 {
-        tally = tried(rt, tally, n);
+    fn print(&self, rt: &HostRuntime) {
+        let mut line = [b' '; 48];
+        text::write_decimal_right(&mut line, 0, self.written, 10);
+        text::write(&mut line, 10, b" numbers, written otherwise");
+        text::write_decimal_right(&mut line, 37, self.otherwise, 10);
+        line[47] = b'\n';
+        let _ = filter::write(rt, &NAME, &line);
     }
-    tally
-}
-
-fn listed(rt: &HostRuntime, begun: Tally) -> Tally {
-    let mut tally = begun;
-    for n in NUMBERS {
-        tally = tried(rt, tally, n);
-    }
-    tally
-}
-
-fn print(rt: &HostRuntime, tally: Tally) {
-    let mut line = [b' '; 48];
-    text::write_decimal_right(&mut line, 0, tally.written, 10);
-    text::write(&mut line, 10, b" numbers, written otherwise");
-    text::write_decimal_right(&mut line, 37, tally.otherwise, 10);
-    line[47] = b'\n';
-    filter::write(rt, &NAME, &line);
 }
 
 fn main(rt: HostRuntime) {
-    let none = Tally {
-        written: 0,
-        otherwise: 0,
-    };
-    print(&rt, listed(&rt, up_to_100_000(&rt, none)));
+    let mut tally = Tally::default();
+    for n in (0..100_001).chain(NUMBERS) {
+        tally.try_number(&rt, n);
+    }
+    tally.print(&rt);
 }

@@ -1,19 +1,18 @@
 -- Laws of the entries made from a scan's descriptors. Assumes nothing.
-use Prim.Native.Nat.{ℕ, ◌+◌, ◌<◌, ◌≤◌, min}
+use Rattle.std.specs.Prelude.{Option, Some, None, is_some, count_by}
+use Rattle.std.proofs.lemmas.List.Recursion.{is_count_by}
+use Prim.Native.Nat.{ℕ, ◌+◌, ◌<◌, ◌≤◌}
 use mathlib.Core.Path.{◌≡◌, refl}
 use mathlib.Core.Bool.{Bool, true, false, cond}
-use mathlib.Core.List.{List, [], ◌∷◌, ◌++◌, append-nil}
+use mathlib.Core.List.{List, [], ◌∷◌, ◌++◌, flat_map}
 use native.Mathlib.Omega.{arith}
 use borrow.Author.Tests.{ltb-true, ltb-false, le-ltb}
 use lib.Dec.{ltb, eqb}
-use lib.ListN.{length, take, get_or, set, length-append}
-use lib.Seq.{set-get_or, take_all, take-append-le, length-take-le}
+use lib.ListN.{length, take, get_or, length-append}
+use lib.Seq.{take_all, take-append-le, length-take-le}
 use Rattle.lists.specs.Lists.{select}
 use Rattle.lists.proofs.Collect.{flat_map-next, select-flat_map}
-use Rattle.nib.specs.Neighbors.{blank, table_of, pushed}
-use Rattle.nib.specs.declared.Neighbor.{Neighbor}
-use Rattle.nib.specs.declared.Neighbor.TheVariants.{Absent, Entry}
-use Rattle.nib.specs.declared.NeighborTable.{NeighborTable}
+use Rattle.nib.specs.Neighbors.{table_of, pushed}
 use Rattle.nib.specs.declared.NwkNeighbor.{NwkNeighbor}
 use Rattle.nib.proofs.Tables.{push-of}
 use Rattle.discovery.specs.declared.mlme.Address.{Address}
@@ -41,10 +40,14 @@ pub neighbors-next : (ds : List PanDescriptor) (i : ℕ) (d : PanDescriptor) →
 unfolding neighbors_of
 neighbors-next = flat_map-next entries_from
 
-pub present-one : (x : Neighbor) → length (present x) ≤ 1
-unfolding present
-present-one Absent = omega arith
-present-one (Entry e) = omega arith
+-- the short-addressed descriptors are those that give an entry
+pub short_count : (ds : List PanDescriptor) → length (neighbors_of ds) ≡ count_by (λ d. is_some (neighbor_of d)) ds
+unfolding neighbors_of present flat_map
+short_count = is_count_by (λ ds. length (neighbors_of ds)) (λ d. is_some (neighbor_of d)) refl (λ d ds. step (neighbor_of d) (neighbors_of ds))
+  where
+    step : (x : Option NwkNeighbor) (l : List NwkNeighbor) → length (present x ++ l) ≡ cond (is_some x) (1 + length l) (length l)
+    step None l = refl
+    step (Some e) l = omega arith
 
 -- with at most 16 short-addressed descriptors no entry is left out of the table
 pub neighbors-all : (ds : List PanDescriptor) → short_addressed ds ≤ 16 → take 16 (neighbors_of ds) ≡ neighbors_of ds
@@ -65,38 +68,15 @@ network-neighbors n ds = select-flat_map entries_from (λ d. eqb d.zigbee_beacon
     own d (Short p a) = refl
     own d (Extended p a) = none (eqb d.zigbee_beacon.extended_pan_id.0 n)
 
--- what is written at the place for one entry more
-abbrev placed : Neighbor → ℕ → NwkNeighbor → NwkNeighbor
-placed x count old = cond (ltb count 16) (get_or (present x) 0 old) old
-
--- a table with one entry more, as the code writes it
-abbrev pub added : NeighborTable → Neighbor → NeighborTable
-added t x =
-    record {
-      entries = set t.entries (min t.count 15) (placed x t.count (get_or t.entries (min t.count 15) blank));
-      count = min (t.count + length (present x)) 16;
-    }
-
--- in a table of at most the first 16 entries it is what there is at their end
-pub added_next : (l : List NwkNeighbor) (x : Neighbor) → added (table_of (take 16 l)) x ≡ table_of (take 16 (l ++ present x))
-unfolding present pushed
-added_next l x = go x (ltb (length l) 16) refl
+-- a push onto a table of at most the first 16 entries
+pub pushed-next : (l : List NwkNeighbor) (e : NwkNeighbor) → pushed (table_of (take 16 l)) e ≡ table_of (take 16 (l ++ (e ∷ [])))
+unfolding pushed
+pushed-next l e = go (ltb (length l) 16) refl
   where
-    -- what stands in a place is added there again
-    same : (t : NeighborTable) (k n : ℕ) → n ≡ t.count → ◌≡◌ {A = NeighborTable} (record { entries = set t.entries k (get_or t.entries k blank); count = n }) t
-    same t k n e = λ i. record { entries = set-get_or t.entries k blank i; count = e i }
-
-    go : (x : Neighbor) (b : Bool) → ltb (length l) 16 ≡ b → added (table_of (take 16 l)) x ≡ table_of (take 16 (l ++ present x))
-    go Absent true q =
+    go : (b : Bool) → ltb (length l) 16 ≡ b → pushed (table_of (take 16 l)) e ≡ table_of (take 16 (l ++ (e ∷ [])))
+    go true q =
         let h : length l < 16 = ltb-true (length l) 16 q in
-        rw (append-nil l, take_all 16 l (omega arith), q) (same (table_of l) (min (length l) 15) (min (length l + 0) 16) (omega arith))
-    go (Entry e) true q =
-        let h : length l < 16 = ltb-true (length l) 16 q in
-        let k : min (length l) 15 ≡ length l = omega arith in
-        let n : min (length l + 1) 16 ≡ length l + 1 = omega arith in
-        rw (take_all 16 l (omega arith), take_all 16 (l ++ (e ∷ [])) (omega (arith, length-append l (e ∷ []))), q, k, n) (rw q at (push-of l e h))
-    go x false q =
+        rw (take_all 16 l (omega arith), take_all 16 (l ++ (e ∷ [])) (omega (arith, length-append l (e ∷ [])))) (push-of l e h)
+    go false q =
         let h : 16 ≤ length l = ltb-false (length l) 16 q in
-        let t = table_of (take 16 l) in
-        let n : length (take 16 l) ≡ 16 = length-take-le 16 l h in
-        rw (le-ltb (length (take 16 l)) 16 (omega arith), take-append-le 16 l (present x) h) (same t (min t.count 15) (min (t.count + length (present x)) 16) (omega arith))
+        rw (le-ltb (length (take 16 l)) 16 (omega (arith, length-take-le 16 l h)), take-append-le 16 l (e ∷ []) h)

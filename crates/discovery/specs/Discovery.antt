@@ -1,10 +1,9 @@
 -- The neighbour entries and the confirm that a discovery makes from a scan's descriptors (01, "Neighbour entry"; Zigbee 3.2.2.3 and 3.2.2.4).
-use Rattle.std.specs.Prelude.{ℕ, false, cond, ◌||◌, eqb, length, replicate}
+use Rattle.std.specs.Prelude.{Option, Some, None, ℕ, false, cond, ◌||◌, eqb, length, replicate}
 use mathlib.Core.List.{List, [], ◌∷◌, flat_map}
 use Rattle.lists.specs.Lists.{over}
 use Rattle.nib.specs.Identifiers.{bit}
 use Rattle.nib.specs.Neighbors.{NONE, device_type_at}
-use Rattle.nib.specs.declared.Neighbor.{Neighbor}
 use Rattle.nib.specs.declared.NwkNeighbor.{NwkNeighbor}
 use Rattle.nib.specs.declared.ShortAddress.{ShortAddress}
 use Rattle.discovery.specs.Mlme.{bits}
@@ -43,17 +42,17 @@ entry_of d address =
     }
 
 -- one entry for a short-addressed descriptor, none for another
-unfoldable pub neighbor_by : PanDescriptor → Address → Neighbor
-neighbor_by d (Address.Short pan address) = Neighbor.Entry (entry_of d address)
-neighbor_by d (Address.Extended pan address) = Neighbor.Absent
+unfoldable pub neighbor_by : PanDescriptor → Address → Option NwkNeighbor
+neighbor_by d (Address.Short pan address) = Some (entry_of d address)
+neighbor_by d (Address.Extended pan address) = None
 
-abbrev pub neighbor_of : PanDescriptor → Neighbor
+abbrev pub neighbor_of : PanDescriptor → Option NwkNeighbor
 neighbor_of d = neighbor_by d d.coord_address
 
 -- an entry as a list of one, none as the empty list
-unfoldable pub present : Neighbor → List NwkNeighbor
-present Neighbor.Absent = []
-present (Neighbor.Entry e) = e ∷ []
+unfoldable pub present : Option NwkNeighbor → List NwkNeighbor
+present None = []
+present (Some e) = e ∷ []
 
 -- one entry for each short-addressed descriptor, in scan order; others are dropped (01, "Neighbour entry")
 unfoldable pub neighbors_of : List PanDescriptor → List NwkNeighbor

@@ -4,10 +4,15 @@ use Rattle.nib.specs.Identifiers.{bit}
 use Rattle.discovery.specs.declared.mlme.PanDescriptor.{PanDescriptor}
 use Rattle.discovery.specs.declared.mlme.PanDescriptorList.{PanDescriptorList}
 use Rattle.discovery.specs.declared.mlme.MacCapabilityInformation.{MacCapabilityInformation}
+use Rattle.discovery.specs.declared.mlme.MacError.{MacError}
 
 -- the descriptors in use: as many as the count says, all 27 where it says more
 abbrev pub descriptors_of : PanDescriptorList → List PanDescriptor
 descriptors_of l = take l.count l.descriptors
+
+-- a failure of the radio: nothing more is said of it
+abbrev pub mac_error : MacError
+mac_error = record {}
 
 -- the field of `width` bits that begins at bit `from`.
 -- Stack profile field of a beacon (Zigbee Annex D): 0 to 3 stack profile, 4 to 7 protocol version, 10 router capacity,

@@ -1,14 +1,13 @@
 // The neighbour table and the network descriptors that a discovery makes from a scan.
 #![tactic(auto)]
 
-ghost use Rattle.std.specs.Prelude.{◌+◌, ◌≤◌, min, ◌≡◌, cond, [], map, ltb, length, take, get_or};
-ghost use Rattle.nib.specs.Neighbors.{table_of};
+ghost use Rattle.std.specs.Prelude.{◌≤◌, ◌≡◌, [], map, length, take, is_some};
+ghost use Rattle.nib.specs.Neighbors.{table_of, pushed};
 ghost use Rattle.discovery.specs.Mlme.{descriptors_of};
 ghost use Rattle.discovery.specs.Discovery.{
   potential_parent_of,
   entry_of,
   neighbor_of,
-  present,
   neighbors_of,
   short_addressed,
   network_descriptor_of,
@@ -22,8 +21,7 @@ use crate::mlme::{
     Address, MAX_PAN_DESCRIPTOR_SIZE, PanDescriptor, PanDescriptorList, StackProfile,
 };
 use nib::{
-    ExtendedPanId, IeeeAddress, MAX_NEIGBOUR_TABLE, Neighbor, NeighborTable, NwkNeighbor, PanId,
-    ShortAddress,
+    ExtendedPanId, IeeeAddress, MAX_NEIGBOUR_TABLE, NeighborTable, NwkNeighbor, PanId, ShortAddress,
 };
 
 // What a discovery tells of one beacon.
@@ -53,35 +51,28 @@ pub struct NlmeNetworkDiscoveryConfirm {
 }
 
 // Whether a beacon's sender may become the parent, as 1 or 0.
+#[tactic(auto, unfolding(crate::specs::Discovery::potential_parent_of))]
 fn potential_parent(profile: StackProfile, address: ShortAddress) -> u8
     ensures { result ≡ potential_parent_of profile.0 address.0 }
 {
-    if profile.router_capacity() {
-        return 1;
-    }
-    if profile.end_device_capacity() {
-        return 1;
-    }
-    if address.0 == nib::NWK_COORDINATOR_ADDRESS {
-        return 1;
-    }
-    0
+    u8::from(
+        profile.router_capacity()
+            || profile.end_device_capacity()
+            || address.0 == nib::NWK_COORDINATOR_ADDRESS,
+    )
 }
 
 // The entry of a beacon whose sender has this short address.
+#[tactic(auto, unfolding(crate::specs::Discovery::entry_of))]
 fn entry_from(pd: PanDescriptor, address: ShortAddress) -> NwkNeighbor
     ensures { result ≡ entry_of pd address }
 {
     let beacon = pd.zigbee_beacon;
     let profile = beacon.stack_profile;
-    let superframe = pd.superframe_spec;
-    let extended_pan_id = beacon.extended_pan_id;
-    let pan_id = pd.coord_pan_id;
-    let device_type = nib::device_type_at(address);
     NwkNeighbor {
         extended_address: IeeeAddress(0),
         network_address: address,
-        device_type,
+        device_type: nib::device_type_at(address),
         rx_on_when_idle: false,
         end_device_configuration: 0,
         relationship: nib::relationship::NONE,
@@ -89,29 +80,26 @@ fn entry_from(pd: PanDescriptor, address: ShortAddress) -> NwkNeighbor
         outgoing_cost: 0,
         age: 0,
         keepalive_received: false,
-        extended_pan_id,
+        extended_pan_id: beacon.extended_pan_id,
         logical_channel: pd.channel,
         depth: profile.device_depth(),
-        permit_joining: superframe.association_permit,
+        permit_joining: pd.superframe_spec.association_permit,
         potential_parent: potential_parent(profile, address),
         router_capacity: profile.router_capacity(),
         end_device_capacity: profile.end_device_capacity(),
         update_id: beacon.update_id,
-        pan_id,
+        pan_id: pd.coord_pan_id,
     }
 }
 
 // The neighbour entry of a descriptor, or none where its sender has no short address.
-fn neighbor_from(pd: PanDescriptor) -> Neighbor
+#[tactic(auto, unfolding(crate::specs::Discovery::neighbor_by))]
+fn neighbor_from(pd: PanDescriptor) -> Option<NwkNeighbor>
     ensures { result ≡ neighbor_of pd }
 {
-    let address = pd.coord_address;
-    match address {
-        Address::Short(_, short) => {
-            let e = entry_from(pd, short);
-            Neighbor::Entry(e)
-        }
-        Address::Extended(_, _) => Neighbor::Absent,
+    match pd.coord_address {
+        Address::Short(_, short) => Some(entry_from(pd, short)),
+        Address::Extended(_, _) => None,
     }
 }
 
@@ -122,11 +110,9 @@ fn network_descriptor(pd: PanDescriptor) -> NetworkDescriptor
     let beacon = pd.zigbee_beacon;
     let profile = beacon.stack_profile;
     let superframe = pd.superframe_spec;
-    let extended_pan_id = beacon.extended_pan_id;
-    let pan_id = pd.coord_pan_id;
     NetworkDescriptor {
-        extended_pan_id,
-        pan_id,
+        extended_pan_id: beacon.extended_pan_id,
+        pan_id: pd.coord_pan_id,
         update_id: beacon.update_id,
         logical_channel: pd.channel,
         stack_profile: profile.stack_profile(),
@@ -139,82 +125,40 @@ fn network_descriptor(pd: PanDescriptor) -> NetworkDescriptor
     }
 }
 
-// How many descriptors are in use: 27 where the count says more.
-fn in_use(list: PanDescriptorList) -> u8
-    ensures { (result ≡ length (descriptors_of list)) × (result ≤ 27) }
+// The descriptors in use: all 27 where the count says more.
+fn in_use(list: &PanDescriptorList) -> &[PanDescriptor]
+    ensures descriptors { result.now ≡ descriptors_of list.now }
+    ensures few { length result.now ≤ 27 }
 {
-    let count = list.count;
-    if count <= MAX_PAN_DESCRIPTOR_SIZE {
-        count as u8
-    } else {
-        MAX_NETWORK_DESCRIPTORS
-    }
+    lists::in_use(&list.descriptors, list.count)
 }
 
-// 1 for a short-addressed descriptor, else 0.
-fn one_if_short(pd: PanDescriptor) -> usize
-    ensures { result ≡ length (present (neighbor_of pd)) }
+// Whether the sender of a descriptor has a short address.
+#[tactic(auto, unfolding(crate::specs::Discovery::neighbor_by))]
+fn is_short(pd: &PanDescriptor) -> bool
+    ensures { result ≡ is_some (neighbor_of pd.now) }
 {
-    let address = pd.coord_address;
-    match address {
-        Address::Short(_, _) => 1,
-        Address::Extended(_, _) => 0,
+    match pd.coord_address {
+        Address::Short(_, _) => true,
+        Address::Extended(_, _) => false,
     }
 }
 
 // How many of the descriptors in use are short-addressed.
+#[tactic(auto, using(crate::proofs::Scans::short_count))]
 pub fn short_addressed(list: PanDescriptorList) -> usize
     ensures { result ≡ short_addressed (descriptors_of list) }
 {
-    let n = in_use(list);
-    let mut found = 0;
-    let mut i = 0;
-    while i < n {
-        let at = i as usize;
-        let pd = list.descriptors[at];
-        found += one_if_short(pd);
-        i += 1;
-    }
-    found
+    in_use(&list).iter().filter(|pd| is_short(*pd)).count()
 }
 
-// Each turn of the loop below writes one slot and the count, whatever its descriptor gives. So its body has no branch, and the table is written in place.
-// Where the descriptor gives no entry, the slot behind those in use gets what it holds already. Where the table is full, the last slot does.
-
-// The place for one entry more, the last one where the table is full.
-fn slot_of(count: u8) -> u8
-    ensures { result ≡ min count 15 }
+// One entry more at the end of a table, or none where it is full: written in place, as the table that is made is large to hand over.
+fn add(table: &mut NeighborTable, e: NwkNeighbor)
+    ensures { table.new ≡ pushed table.old e }
 {
-    if count < MAX_NEIGBOUR_TABLE {
-        count
-    } else {
-        MAX_NEIGBOUR_TABLE - 1
-    }
-}
-
-// What is written there: what a descriptor gives, or what stood there where it gives nothing or the table is full.
-fn placed(found: Neighbor, count: u8, old: NwkNeighbor) -> NwkNeighbor
-    ensures { result ≡ cond (ltb count 16) (get_or (present found) 0 old) old }
-{
-    if MAX_NEIGBOUR_TABLE <= count {
-        return old;
-    }
-    match found {
-        Neighbor::Entry(e) => e,
-        Neighbor::Absent => old,
-    }
-}
-
-// How many entries there are then, at most 16.
-fn counted(found: Neighbor, count: u8) -> u8
-    ensures { result ≡ min (count + length (present found)) 16 }
-{
-    if MAX_NEIGBOUR_TABLE <= count {
-        return MAX_NEIGBOUR_TABLE;
-    }
-    match found {
-        Neighbor::Entry(_) => count + 1,
-        Neighbor::Absent => count,
+    if table.count < MAX_NEIGBOUR_TABLE {
+        table.entries[table.count as usize] = e;
+        table.count += 1;
     }
 }
 
@@ -222,20 +166,11 @@ fn counted(found: Neighbor, count: u8) -> u8
 pub fn neighbor_table_from(list: PanDescriptorList) -> NeighborTable
     ensures { result ≡ table_of (take 16 (neighbors_of (descriptors_of list))) }
 {
-    let n = in_use(list);
     let mut table = NeighborTable::new();
-    let mut i = 0;
-    while i < n {
-        let at = i as usize;
-        let pd = list.descriptors[at];
-        let found = neighbor_from(pd);
-        let count = table.count;
-        let slot = slot_of(count) as usize;
-        let old = table.entries[slot];
-        let e = placed(found, count, old);
-        table.entries[slot] = e;
-        table.count = counted(found, count);
-        i += 1;
+    for pd in in_use(&list) {
+        if let Some(e) = neighbor_from(*pd) {
+            add(&mut table, e);
+        }
     }
     table
 }
@@ -263,10 +198,8 @@ fn blank_descriptor() -> NetworkDescriptor
 pub fn no_networks() -> NlmeNetworkDiscoveryConfirm
     ensures { result ≡ confirm_of [] }
 {
-    let none = blank_descriptor();
-    let slots = [none; MAX_PAN_DESCRIPTOR_SIZE];
     NlmeNetworkDiscoveryConfirm {
-        network_descriptor: slots,
+        network_descriptor: [blank_descriptor(); MAX_PAN_DESCRIPTOR_SIZE],
         count: 0,
     }
 }
@@ -275,19 +208,11 @@ pub fn no_networks() -> NlmeNetworkDiscoveryConfirm
 pub fn network_descriptors(list: PanDescriptorList) -> NlmeNetworkDiscoveryConfirm
     ensures { result ≡ confirm_of (map network_descriptor_of (descriptors_of list)) }
 {
-    let n = in_use(list);
-    let none = blank_descriptor();
-    let mut slots = [none; MAX_PAN_DESCRIPTOR_SIZE];
-    let mut i = 0;
-    while i < n {
-        let at = i as usize;
-        let pd = list.descriptors[at];
-        let d = network_descriptor(pd);
-        slots[at] = d;
-        i += 1;
+    let used = in_use(&list);
+    let mut confirm = no_networks();
+    for (i, pd) in used.iter().enumerate() {
+        confirm.network_descriptor[i] = network_descriptor(*pd);
     }
-    NlmeNetworkDiscoveryConfirm {
-        network_descriptor: slots,
-        count: n,
-    }
+    confirm.count = used.len() as u8;
+    confirm
 }

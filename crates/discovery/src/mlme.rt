@@ -61,6 +61,7 @@ impl StackProfile {
     }
 }
 
+// What a beacon says of its sender's network.
 #[derive(Clone, Copy)]
 pub struct ZigbeeBeacon {
     pub stack_profile: StackProfile,
@@ -68,6 +69,7 @@ pub struct ZigbeeBeacon {
     pub update_id: u8,
 }
 
+// A beacon as a scan hands it over.
 #[derive(Clone, Copy)]
 pub struct PanDescriptor {
     pub channel: u8,
@@ -77,6 +79,10 @@ pub struct PanDescriptor {
     pub link_quality: u8,
     pub zigbee_beacon: ZigbeeBeacon,
 }
+
+// The radio failed; no decision asks why.
+#[derive(Clone, Copy)]
+pub struct MacError;
 
 // How many descriptors a scan hands over at most.
 pub const MAX_PAN_DESCRIPTOR_SIZE: usize = 27;

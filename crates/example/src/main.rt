@@ -6,16 +6,15 @@ use discovery::mlme::{
     Address, MAX_PAN_DESCRIPTOR_SIZE, PanDescriptor, PanDescriptorList, StackProfile,
     SuperframeSpecification, ZigbeeBeacon,
 };
-use join::association::{AssociationOutcome, AssociationResponse};
+use filter::Failed;
+use join::association::AssociationResponse;
 use management::frame::{ReceivedFrame, Source};
 use management::{
-    NlmeJoinConfirm, NlmeJoinRequest, NlmeJoinStatus, RejoinNetwork, RejoinResponse, ScanRange,
-    SendAnswer, StatusIndicationSlot,
+    NlmeJoinConfirm, NlmeJoinRequest, NlmeJoinStatus, NlmeNwkStatusIndication, RejoinNetwork,
+    RejoinResponse, ScanRange, SendAnswer,
 };
-use nib::{
-    CapabilityInformation, ExtendedPanId, IeeeAddress, Nib, OptionalIeee, PanId, ShortAddress,
-};
-use node::{Answer, ReceptionOutcome, ScanOutcome, State};
+use nib::{CapabilityInformation, ExtendedPanId, IeeeAddress, Nib, PanId, ShortAddress};
+use node::{Answer, State};
 use operation::{Note, RadioRequest, Step};
 
 // The plug: an end device on mains power that listens when idle and wants a short address.
@@ -37,10 +36,7 @@ const DEPTH_2: u16 = 0x9422;
 // The scripted radio. The near router can be switched off.
 
 fn reaches(near_is_on: bool, router: ShortAddress) -> bool {
-    if router.0 == NEAR {
-        return near_is_on;
-    }
-    router.0 == FAR
+    router.0 == FAR || near_is_on && router.0 == NEAR
 }
 
 // A beacon. The stack profile field has room for routers and end devices, the router's depth, stack profile 2 and protocol version 2.
@@ -80,177 +76,122 @@ fn heard(near_is_on: bool) -> PanDescriptorList {
 }
 
 // A router that is asked to take the plug back does so.
-fn polled(router: ShortAddress) -> ReceptionOutcome {
+fn polled(router: ShortAddress) -> ReceivedFrame {
     let source = Source {
         address: router,
-        ieee: OptionalIeee::NoIeee,
+        ieee: None,
     };
     let response = RejoinResponse {
         network_address: ShortAddress(0x9abc),
         status: 0,
     };
-    ReceptionOutcome::Received(ReceivedFrame::RejoinResponseCommand(source, response))
+    ReceivedFrame::RejoinResponseCommand(source, response)
 }
 
-// The radio is asked, and the outcome is handed to the node. A step that asks nothing stays.
-fn carry_out(answer: Answer, near_is_on: bool) -> Answer {
-    let step = answer.step;
-    let Step::Ask(request) = step else {
-        return answer;
-    };
+// The radio carries out what the node asks, and the outcome is handed to the node.
+fn carry_out(state: State, request: RadioRequest, near_is_on: bool) -> Answer {
     match request {
-        RadioRequest::Scan(_) => {
-            let list = heard(near_is_on);
-            let outcome = ScanOutcome {
-                failed: false,
-                list,
-            };
-            // beside the answer stands the confirm of a discovery, with the networks that were heard; this plug knows which one it wants
-            return answer.state.scan_over(outcome).answer;
-        }
-        RadioRequest::Associate(_) => {
-            let response = AssociationResponse {
-                status: 0,
-                association_address: ShortAddress(0x5678),
-                device_address: IeeeAddress(PLUG),
-            };
-            return answer
-                .state
-                .association_over(AssociationOutcome::Associated(response));
-        }
+        // beside the answer stands the confirm of a discovery, with the networks that were heard; this plug knows which one it wants
+        RadioRequest::Scan(_) => state.scan_over(Ok(heard(near_is_on))).answer,
+        RadioRequest::Associate(_) => state.association_over(Ok(AssociationResponse {
+            status: 0,
+            association_address: ShortAddress(0x5678),
+            device_address: IeeeAddress(PLUG),
+        })),
         RadioRequest::Transmit(transmission) => {
-            return answer
-                .state
-                .transmission_over(reaches(near_is_on, transmission.address));
+            state.transmission_over(reaches(near_is_on, transmission.address))
         }
-        RadioRequest::Poll(_, router) => {
-            return answer.state.reception_over(polled(router));
-        }
-        RadioRequest::Receive => {
-            return answer.state.reception_over(ReceptionOutcome::NoData);
-        }
+        RadioRequest::Poll(_, router) => state.reception_over(Ok(Some(polled(router)))),
+        RadioRequest::Receive => state.reception_over(Ok(None)),
     }
 }
 
-// What is printed; each answers whether it could be written.
+// What is printed. What can't be printed ends the program.
 
-fn say(rt: &HostRuntime, text: &[u8]) -> bool {
+fn say(rt: &HostRuntime, text: &[u8]) -> Result<(), Failed> {
     filter::write(rt, b"example", text)
 }
 
-fn say_of(rt: &HostRuntime, text: &[u8], address: ShortAddress) -> bool {
+fn say_of(rt: &HostRuntime, text: &[u8], address: ShortAddress) -> Result<(), Failed> {
     let mut digits = [0u8; 4];
-    text::write_hex(&mut digits, 0, address.0 as u64, 4);
-    if !say(rt, text) {
-        return false;
-    }
-    if !say(rt, &digits) {
-        return false;
-    }
+    text::write_hex(&mut digits, 0, u64::from(address.0), 4);
+    say(rt, text)?;
+    say(rt, &digits)?;
     say(rt, b"\n")
 }
 
-fn tell_request(rt: &HostRuntime, request: RadioRequest) -> bool {
+fn tell_request(rt: &HostRuntime, request: RadioRequest) -> Result<(), Failed> {
     match request {
-        RadioRequest::Scan(_) => return say(rt, b"  radio: scan\n"),
-        RadioRequest::Associate(a) => return say_of(rt, b"  radio: associate with ", a.address),
-        RadioRequest::Transmit(t) => return say_of(rt, b"  radio: transmit to ", t.address),
-        RadioRequest::Poll(_, router) => return say_of(rt, b"  radio: poll ", router),
-        RadioRequest::Receive => return say(rt, b"  radio: receive\n"),
+        RadioRequest::Scan(_) => say(rt, b"  radio: scan\n"),
+        RadioRequest::Associate(a) => say_of(rt, b"  radio: associate with ", a.address),
+        RadioRequest::Transmit(t) => say_of(rt, b"  radio: transmit to ", t.address),
+        RadioRequest::Poll(_, router) => say_of(rt, b"  radio: poll ", router),
+        RadioRequest::Receive => say(rt, b"  radio: receive\n"),
     }
 }
 
-fn tell_joined(rt: &HostRuntime, confirm: NlmeJoinConfirm) -> bool {
-    let status = confirm.status;
-    match status {
-        NlmeJoinStatus::Success => return say_of(rt, b"  joined as ", confirm.network_address),
-        _ => return say(rt, b"  not joined\n"),
+fn tell_joined(rt: &HostRuntime, confirm: NlmeJoinConfirm) -> Result<(), Failed> {
+    match confirm.status {
+        NlmeJoinStatus::Success => say_of(rt, b"  joined as ", confirm.network_address),
+        _ => say(rt, b"  not joined\n"),
     }
 }
 
-fn tell_sent(rt: &HostRuntime, answer: SendAnswer) -> bool {
+fn tell_sent(rt: &HostRuntime, answer: SendAnswer) -> Result<(), Failed> {
     match answer {
-        SendAnswer::SendOk => return say(rt, b"  sent\n"),
-        SendAnswer::SendParentLinkFailure => return say(
-            rt,
-            b"  not sent: the link to the parent has failed\n",
-        ),
-        _ => return say(rt, b"  not sent\n"),
-    }
-}
-
-fn tell_status(rt: &HostRuntime, slot: StatusIndicationSlot) -> bool {
-    match slot {
-        StatusIndicationSlot::NoStatusIndication => return say(rt, b"  nothing\n"),
-        StatusIndicationSlot::HasStatusIndication(indication) => {
-            return say_of(rt, b"  the parent is lost: ", indication.network_address);
+        SendAnswer::SendOk => say(rt, b"  sent\n"),
+        SendAnswer::SendParentLinkFailure => {
+            say(rt, b"  not sent: the link to the parent has failed\n")
         }
+        _ => say(rt, b"  not sent\n"),
     }
 }
 
-fn tell_step(rt: &HostRuntime, step: Step) -> bool {
+fn tell_status(
+    rt: &HostRuntime,
+    indication: Option<NlmeNwkStatusIndication>,
+) -> Result<(), Failed> {
+    match indication {
+        None => say(rt, b"  nothing\n"),
+        Some(indication) => say_of(rt, b"  the parent is lost: ", indication.network_address),
+    }
+}
+
+fn tell_step(rt: &HostRuntime, step: Step) -> Result<(), Failed> {
     match step {
-        Step::Refused(_) => return say(rt, b"  turned down\n"),
-        Step::Ask(request) => return tell_request(rt, request),
-        Step::Discovered => return say(rt, b"  networks were heard\n"),
-        Step::Joined(confirm) => return tell_joined(rt, confirm),
-        Step::Sent(answer) => return tell_sent(rt, answer),
-        Step::StatusTaken(slot) => return tell_status(rt, slot),
-        _ => return say(rt, b"  something that this plug does not ask for\n"),
+        Step::Refused(_) => say(rt, b"  turned down\n"),
+        Step::Ask(request) => tell_request(rt, request),
+        Step::Discovered => say(rt, b"  networks were heard\n"),
+        Step::Joined(confirm) => tell_joined(rt, confirm),
+        Step::Sent(answer) => tell_sent(rt, answer),
+        Step::StatusTaken(indication) => tell_status(rt, indication),
+        _ => say(rt, b"  something that this plug does not ask for\n"),
     }
 }
 
 // An owner who keeps more than this state (routes, groups, keys) resets that where `answer.reset` says so: the device has left its network for good.
 
 // The note, which the radio obeys before it is asked; then the request, or what the operation came to.
-fn tell(rt: &HostRuntime, note: Note, step: Step) -> bool {
-    match note {
-        Note::NoNote => return tell_step(rt, step),
-        Note::SetChannel(_) => {
-            if !say(rt, b"  radio: set channel\n") {
-                return false;
-            }
-            return tell_step(rt, step);
-        }
-        Note::SetAddress(own) => {
-            if !say_of(rt, b"  radio: set address ", own) {
-                return false;
-            }
-            return tell_step(rt, step);
-        }
+fn tell(rt: &HostRuntime, answer: Answer) -> Result<(), Failed> {
+    match answer.note {
+        None => {}
+        Some(Note::SetChannel(_)) => say(rt, b"  radio: set channel\n")?,
+        Some(Note::SetAddress(own)) => say_of(rt, b"  radio: set address ", own)?,
     }
+    tell_step(rt, answer.step)
 }
 
-// The state after an operation, and whether all that was said of it could be written.
-#[derive(Clone, Copy)]
-struct Settled {
-    state: State,
-    written: bool,
-}
-
-// Carries requests out until the operation has come to its end.
-fn settle(rt: &HostRuntime, first: Answer, near_is_on: bool) -> Settled {
+// Carries requests out until the operation has come to its end, and answers the state then.
+fn settle(rt: &HostRuntime, first: Answer, near_is_on: bool) -> Result<State, Failed> {
     let mut answer = first;
     for _ in 0..u64::MAX {
-        let note = answer.note;
-        let step = answer.step;
-        if !tell(rt, note, step) {
+        tell(rt, answer)?;
+        let Step::Ask(request) = answer.step else {
             break;
-        }
-        let Step::Ask(_) = step else {
-            let state = answer.state;
-            return Settled {
-                state,
-                written: true,
-            };
         };
-        answer = carry_out(answer, near_is_on);
+        answer = carry_out(answer.state, request, near_is_on);
     }
-    let state = answer.state;
-    Settled {
-        state,
-        written: false,
-    }
+    Ok(answer.state)
 }
 
 fn request(kind: RejoinNetwork) -> NlmeJoinRequest {
@@ -259,69 +200,83 @@ fn request(kind: RejoinNetwork) -> NlmeJoinRequest {
         rejoin_network: kind,
         capability_information: CapabilityInformation(CAPABILITIES),
         security_enabled: true,
-        scan: channels(),
+        scan: CHANNELS,
     }
 }
 
-fn channels() -> ScanRange {
-    ScanRange {
-        first: 11,
-        past: 27,
-        duration: 3,
-    }
-}
+const CHANNELS: ScanRange = ScanRange {
+    first: 11,
+    past: 27,
+    duration: 3,
+};
 
 fn blank() -> State {
-    let mut nib = Nib::new(IeeeAddress(PLUG));
-    let capabilities = CapabilityInformation(CAPABILITIES);
-    nib.capability_information = capabilities;
-    nib.stack_profile = 1;
+    let nib = Nib {
+        capability_information: CapabilityInformation(CAPABILITIES),
+        stack_profile: 1,
+        ..Nib::new(IeeeAddress(PLUG))
+    };
     State::new(nib, 41)
 }
 
-// What the plug's owner does, a letter for each thing: a discovery, a join, sends, the status that is taken, a rejoin. At the dash the near router is switched
-// off.
-const DAY: [u8; 10] = *b"djs-ssstrs";
+// What happens to the plug: its owner starts an operation or takes the status, or the near router is switched off.
+#[derive(Clone, Copy)]
+enum Event {
+    Discovery,
+    Join,
+    Send,
+    TakeStatus,
+    Rejoin,
+    NearIsSwitchedOff,
+}
 
-fn name(rt: &HostRuntime, letter: u8) -> bool {
-    match letter {
-        b'd' => return say(rt, b"discovery\n"),
-        b'j' => return say(rt, b"join\n"),
-        b's' => return say(rt, b"send\n"),
-        b't' => return say(rt, b"status\n"),
-        b'r' => return say(rt, b"rejoin\n"),
-        _ => return say(rt, b"the near router is switched off\n"),
+const DAY: [Event; 10] = [
+    Event::Discovery,
+    Event::Join,
+    Event::Send,
+    Event::NearIsSwitchedOff,
+    Event::Send,
+    Event::Send,
+    Event::Send,
+    Event::TakeStatus,
+    Event::Rejoin,
+    Event::Send,
+];
+
+fn name(event: Event) -> &'static [u8] {
+    match event {
+        Event::Discovery => b"discovery\n",
+        Event::Join => b"join\n",
+        Event::Send => b"send\n",
+        Event::TakeStatus => b"status\n",
+        Event::Rejoin => b"rejoin\n",
+        Event::NearIsSwitchedOff => b"the near router is switched off\n",
     }
 }
 
-fn start(state: State, letter: u8) -> Answer {
-    match letter {
-        b'd' => return state.start_discovery(channels()),
-        b'j' => return state.join(request(RejoinNetwork::Association)),
-        b's' => return state.send_data(ShortAddress(0), true),
-        b't' => return state.take_nwk_status_indication(),
-        _ => return state.join(request(RejoinNetwork::NwkRejoin)),
+// What the owner's call answers; the near router is none of his.
+fn start(state: State, event: Event) -> Option<Answer> {
+    match event {
+        Event::Discovery => Some(state.start_discovery(CHANNELS)),
+        Event::Join => Some(state.join(request(RejoinNetwork::Association))),
+        Event::Send => Some(state.send_data(ShortAddress(0), true)),
+        Event::TakeStatus => Some(state.take_nwk_status_indication()),
+        Event::Rejoin => Some(state.join(request(RejoinNetwork::NwkRejoin))),
+        Event::NearIsSwitchedOff => None,
     }
 }
 
 // Goes through the day.
-fn live(rt: &HostRuntime, mut state: State) {
+fn live(rt: &HostRuntime, mut state: State) -> Result<(), Failed> {
     let mut near_is_on = true;
-    for letter in DAY {
-        if !name(rt, letter) {
-            return;
-        }
-        if letter == b'-' {
-            near_is_on = false;
-        } else {
-            let settled = settle(rt, start(state, letter), near_is_on);
-            if !settled.written {
-                return;
-            }
-            let next = settled.state;
-            state = next;
+    for event in DAY {
+        say(rt, name(event))?;
+        match start(state, event) {
+            Some(answer) => state = settle(rt, answer, near_is_on)?,
+            None => near_is_on = false,
         }
     }
+    Ok(())
 }
 
 // Prints the usage if there is an argument, and answers whether it did.
@@ -346,5 +301,5 @@ fn main(rt: HostRuntime) {
     if usage_printed(&rt) {
         return;
     }
-    live(&rt, blank());
+    let _ = live(&rt, blank());
 }

@@ -1,17 +1,13 @@
 -- Sends, polls, receives, negotiation and keepalive outside a rejoin, the tick and the takings (01, "Supervision record"; Zigbee 3.6.3, 3.6.6 and 3.6.10).
 -- `parent` is the present parent, seen with the IEEE address known of its short address.
-use Rattle.std.specs.Prelude.{Bool, true, false, cond, eqb}
+use Rattle.std.specs.Prelude.{Option, Some, None, Bool, true, false, cond, eqb}
 use Rattle.nib.specs.declared.NwkNeighbor.{NwkNeighbor}
-use Rattle.nib.specs.declared.Neighbor.{Neighbor}
 use Rattle.nib.specs.declared.ShortAddress.{ShortAddress}
 use Rattle.management.specs.Signals.{with_timeout_response, with_leave_indication, with_status_indication}
 use Rattle.management.specs.declared.SendAnswer.{SendAnswer}
 use Rattle.management.specs.declared.PollAnswer.{PollAnswer}
-use Rattle.management.specs.declared.LeaveIndicationSlot.{LeaveIndicationSlot}
-use Rattle.management.specs.declared.StatusIndicationSlot.{StatusIndicationSlot}
 use Rattle.management.specs.declared.NegotiationAnswer.{NegotiationAnswer}
 use Rattle.management.specs.declared.KeepaliveAnswer.{KeepaliveAnswer}
-use Rattle.management.specs.declared.TimeoutResponseSlot.{TimeoutResponseSlot}
 use Rattle.management.specs.Frame.{next_seq}
 use Rattle.management.specs.declared.frame.SentFrame.{SentFrame}
 use Rattle.nlme.specs.Fields.{with_signals}
@@ -28,6 +24,7 @@ use Rattle.operation.specs.declared.Control.{Control}
 use Rattle.operation.specs.declared.RadioRequest.{RadioRequest}
 use Rattle.operation.specs.declared.Step.{Step}
 use Rattle.operation.specs.declared.Decision.{Decision}
+use Rattle.management.specs.declared.EndDeviceTimeoutResponse.{EndDeviceTimeoutResponse}
 
 -- a data send (`send_data`): it goes through the parent and carries no IEEE address; with no parent it uses up a sequence number all the same
 abbrev pub data_to : ShortAddress → Bool → NwkNeighbor → Control → Decision
@@ -44,22 +41,22 @@ data_to destination secure p c =
     }))))
     (with_nlme (seq_used c.nlme) c)
 
-unfoldable pub send_started : ShortAddress → Bool → Neighbor → Control → Decision
-send_started destination secure Neighbor.Absent c = ending (Step.Sent SendAnswer.SendNotJoined) (with_nlme (seq_used c.nlme) c)
-send_started destination secure (Neighbor.Entry p) c = data_to destination secure p c
+unfoldable pub send_started : ShortAddress → Bool → Option NwkNeighbor → Control → Decision
+send_started destination secure None c = ending (Step.Sent SendAnswer.SendNotJoined) (with_nlme (seq_used c.nlme) c)
+send_started destination secure (Some p) c = data_to destination secure p c
 
 -- its outcome: "Only sends by `transmit_via_parent` count"
 abbrev pub via_parent : ViaParent → Control → Decision
 via_parent v c = ending (Step.Sent v.answer) (with_nlme v.nlme c)
 
-unfoldable pub data_sent : Bool → Neighbor → Control → Decision
+unfoldable pub data_sent : Bool → Option NwkNeighbor → Control → Decision
 data_sent true parent c = via_parent (sent_via_parent parent c.nlme) c
 data_sent false parent c = via_parent (failed_via_parent parent c.nlme) c
 
 -- one poll of the parent (Zigbee 3.6.6), or one passive receive
-unfoldable pub poll_started : Neighbor → Control → Decision
-poll_started Neighbor.Absent c = ending (Step.Polled PollAnswer.PollNotJoined) c
-poll_started (Neighbor.Entry p) c = polled Purpose.SinglePoll p c
+unfoldable pub poll_started : Option NwkNeighbor → Control → Decision
+poll_started None c = ending (Step.Polled PollAnswer.PollNotJoined) c
+poll_started (Some p) c = polled Purpose.SinglePoll p c
 
 unfoldable pub receive_started : Control → Decision
 receive_started c = asking (Phase.Reception Purpose.SingleReceive) RadioRequest.Receive c
@@ -75,7 +72,7 @@ unfoldable pub poll_over : PollAnswer → Control → Decision
 poll_over a c = ending (Step.Polled a) c
 
 -- a keepalive that fails signals ParentLinkFailure, whatever the reason; a negotiation says the reason
-unfoldable pub timeout_failed : NegotiationAnswer → TimeoutFor → Neighbor → Control → Decision
+unfoldable pub timeout_failed : NegotiationAnswer → TimeoutFor → Option NwkNeighbor → Control → Decision
 timeout_failed a TimeoutFor.Keepalive parent c = ending (Step.KeepaliveOver KeepaliveAnswer.KeepaliveParentLinkFailure) (with_nlme (link_failure parent c.nlme) c)
 timeout_failed a TimeoutFor.Negotiation parent c = ending (Step.NegotiationOver a) c
 
@@ -86,26 +83,26 @@ accepted TimeoutFor.Negotiation c = ending (Step.NegotiationOver NegotiationAnsw
 -- the start of a negotiation or keepalive (Zigbee 3.6.10.2 and 3.6.10.3): an old response is dropped, with no parent too.
 -- "at most 3 polls follow a send that succeeded"
 abbrev pub no_timeout_response : Control → Control
-no_timeout_response c = with_nlme (with_signals (with_timeout_response TimeoutResponseSlot.NoTimeoutResponse c.nlme.signals) c.nlme) c
+no_timeout_response c = with_nlme (with_signals (with_timeout_response None c.nlme.signals) c.nlme) c
 
 abbrev pub requesting : TimeoutFor → Transmitting → Control → Decision
 requesting u t c = asking (Phase.Transmission (TransmissionFor.TimeoutRequest u)) (RadioRequest.Transmit t.transmission) (with_polls_left 3 (with_nlme t.nlme c))
 
-unfoldable pub timeout_started : TimeoutFor → Neighbor → Control → Decision
-timeout_started u Neighbor.Absent c = timeout_failed NegotiationAnswer.NegotiationNotJoined u Neighbor.Absent (no_timeout_response c)
-timeout_started u (Neighbor.Entry p) c = requesting u (timeout_requested p (no_timeout_response c).nlme) (no_timeout_response c)
+unfoldable pub timeout_started : TimeoutFor → Option NwkNeighbor → Control → Decision
+timeout_started u None c = timeout_failed NegotiationAnswer.NegotiationNotJoined u None (no_timeout_response c)
+timeout_started u (Some p) c = requesting u (timeout_requested p (no_timeout_response c).nlme) (no_timeout_response c)
 
 -- the polls: any timeout response ends them and its status decides
-unfoldable pub timeout_answered_by : TimeoutResponseSlot → TimeoutFor → Neighbor → Control → Decision
-timeout_answered_by (TimeoutResponseSlot.HasTimeoutResponse r) u parent c =
+unfoldable pub timeout_answered_by : Option EndDeviceTimeoutResponse → TimeoutFor → Option NwkNeighbor → Control → Decision
+timeout_answered_by (Some r) u parent c =
     cond (eqb r.status 0) (accepted u (no_timeout_response c)) (timeout_failed NegotiationAnswer.NotNegotiated u parent (no_timeout_response c))
-timeout_answered_by TimeoutResponseSlot.NoTimeoutResponse u parent c = poll_on (Purpose.TimeoutResponse u) parent (timeout_failed NegotiationAnswer.NotNegotiated u parent) c
+timeout_answered_by None u parent c = poll_on (Purpose.TimeoutResponse u) parent (timeout_failed NegotiationAnswer.NotNegotiated u parent) c
 
-abbrev pub timeout_goes_on : TimeoutFor → Neighbor → Control → Decision
+abbrev pub timeout_goes_on : TimeoutFor → Option NwkNeighbor → Control → Decision
 timeout_goes_on u parent c = timeout_answered_by c.nlme.signals.timeout_response u parent c
 
 -- the outcome of the request's send
-unfoldable pub timeout_request_sent : TimeoutFor → Bool → Neighbor → Control → Decision
+unfoldable pub timeout_request_sent : TimeoutFor → Bool → Option NwkNeighbor → Control → Decision
 timeout_request_sent u true parent c = timeout_goes_on u parent c
 timeout_request_sent u false parent c = timeout_failed NegotiationAnswer.NegotiationMacError u parent c
 
@@ -123,9 +120,9 @@ timeout_refreshed c = telling Step.Done (with_nlme (refreshed c.nlme) c)
 abbrev pub leave_taken : Control → Decision
 leave_taken c =
     telling (Step.LeaveTaken c.nlme.signals.leave_indication)
-    (with_nlme (with_signals (with_leave_indication LeaveIndicationSlot.NoLeaveIndication c.nlme.signals) c.nlme) c)
+    (with_nlme (with_signals (with_leave_indication None c.nlme.signals) c.nlme) c)
 
 abbrev pub status_taken : Control → Decision
 status_taken c =
     telling (Step.StatusTaken c.nlme.signals.nwk_status_indication)
-    (with_nlme (with_signals (with_status_indication StatusIndicationSlot.NoStatusIndication c.nlme.signals) c.nlme) c)
+    (with_nlme (with_signals (with_status_indication None c.nlme.signals) c.nlme) c)

@@ -4,18 +4,14 @@
 ghost use Rattle.std.specs.Prelude.{◌≡◌, cond};
 ghost use Rattle.management.specs.Frame.{next_seq};
 ghost use Rattle.management.specs.declared.frame.SentFrame.TheVariants.{DataFrame};
-ghost use Rattle.nlme.specs.Fields.{with_signals};
 ghost use Rattle.nlme.specs.Nlme.{transmission, nlme_ticked, sent_via_parent, failed_via_parent};
-ghost use Rattle.operation.specs.Operation.{with_nlme};
 ghost use Rattle.exchange.specs.Exchange.{send_started, data_sent, poll_started, receive_started, no_data, poll_over, tick_told, timeout_refreshed, leave_taken, status_taken};
 
 pub mod negotiation;
 
 use management::frame::{DataHeader, SentFrame};
-use management::{
-    LeaveIndicationSlot, PollAnswer, SendAnswer, Signals, StatusIndicationSlot, frame,
-};
-use nib::{Neighbor, ShortAddress};
+use management::{PollAnswer, SendAnswer, frame};
+use nib::{NwkNeighbor, ShortAddress};
 use nlme::{Nlme, Transmission, ViaParent};
 use operation::{Control, Decision, Phase, Purpose, RadioRequest, Step, TransmissionFor};
 
@@ -28,61 +24,61 @@ fn data_frame(
 ) -> Transmission
     ensures { result ≡ transmission nlme address (DataFrame (record { destination = destination; source = nlme.nib.network_address; sequence_number = next_seq nlme.nwk_seq; secure = secure })) }
 {
-    let source = nlme.nib.network_address;
-    let pan_id = nlme.nib.panid;
-    let sequence_number = frame::next_nwk_seq(nlme.nwk_seq);
     let header = DataHeader {
         destination,
-        source,
-        sequence_number,
+        source: nlme.nib.network_address,
+        sequence_number: frame::next_nwk_seq(nlme.nwk_seq),
         secure,
     };
     Transmission {
-        pan_id,
+        pan_id: nlme.nib.panid,
         address,
         frame: SentFrame::DataFrame(header),
     }
 }
 
 // The start of a data send.
+#[tactic(auto, unfolding(crate::specs::Exchange::send_started))]
 pub fn start_send(
     control: Control,
     destination: ShortAddress,
     secure: bool,
-    parent: Neighbor,
+    parent: Option<NwkNeighbor>,
 ) -> Decision
     ensures { result ≡ send_started destination secure parent control }
 {
     let used = operation::with_nlme(control, control.nlme.use_nwk_seq());
     match parent {
-        Neighbor::Absent => return operation::ending(used, Step::Sent(SendAnswer::SendNotJoined)),
-        Neighbor::Entry(p) => {
-            let frame = data_frame(control.nlme, destination, secure, p.network_address);
-            return operation::transmit(used, Phase::Transmission(TransmissionFor::Data), frame);
+        None => operation::ending(used, Step::Sent(SendAnswer::SendNotJoined)),
+        Some(parent) => {
+            let frame = data_frame(control.nlme, destination, secure, parent.network_address);
+            operation::transmit(used, Phase::Transmission(TransmissionFor::Data), frame)
         }
     }
 }
 
 // What the outcome of a data send does to the failure pairs and the timer, and its answer.
-fn via_parent(nlme: Nlme, sent: bool, parent: Neighbor) -> ViaParent
+fn via_parent(nlme: Nlme, sent: bool, parent: Option<NwkNeighbor>) -> ViaParent
     ensures { result ≡ cond sent (sent_via_parent parent nlme) (failed_via_parent parent nlme) }
 {
     if sent {
-        return nlme.sent_via_parent(parent);
+        nlme.sent_via_parent(parent)
+    } else {
+        nlme.failed_via_parent(parent)
     }
-    nlme.failed_via_parent(parent)
 }
 
 // The outcome of a data send.
-pub fn decide_send(control: Control, sent: bool, parent: Neighbor) -> Decision
+#[tactic(auto, unfolding(crate::specs::Exchange::data_sent))]
+pub fn decide_send(control: Control, sent: bool, parent: Option<NwkNeighbor>) -> Decision
     ensures { result ≡ data_sent sent parent control }
 {
-    let via = via_parent(control.nlme, sent, parent);
-    let answer = via.answer;
-    operation::ending(operation::with_nlme(control, via.nlme), Step::Sent(answer))
+    let ViaParent { nlme, answer } = via_parent(control.nlme, sent, parent);
+    operation::ending(operation::with_nlme(control, nlme), Step::Sent(answer))
 }
 
 // A poll or a receive ends with an answer.
+#[tactic(auto, unfolding(crate::specs::Exchange::poll_over))]
 pub fn end_poll(control: Control, answer: PollAnswer) -> Decision
     ensures { result ≡ poll_over answer control }
 {
@@ -90,16 +86,18 @@ pub fn end_poll(control: Control, answer: PollAnswer) -> Decision
 }
 
 // The start of one poll of the parent.
-pub fn start_poll(control: Control, parent: Neighbor) -> Decision
+#[tactic(auto, unfolding(crate::specs::Exchange::poll_started, crate::specs::Exchange::poll_over))]
+pub fn start_poll(control: Control, parent: Option<NwkNeighbor>) -> Decision
     ensures { result ≡ poll_started parent control }
 {
     match parent {
-        Neighbor::Absent => return end_poll(control, PollAnswer::PollNotJoined),
-        Neighbor::Entry(p) => return operation::poll_parent(control, Purpose::SinglePoll, p),
+        None => end_poll(control, PollAnswer::PollNotJoined),
+        Some(parent) => operation::poll_parent(control, Purpose::SinglePoll, parent),
     }
 }
 
 // The start of one passive receive.
+#[tactic(auto, unfolding(crate::specs::Exchange::receive_started))]
 pub fn start_receive(control: Control) -> Decision
     ensures { result ≡ receive_started control }
 {
@@ -115,15 +113,15 @@ pub fn no_data(purpose: Purpose) -> PollAnswer
     ensures { result ≡ no_data purpose }
 {
     match purpose {
-        Purpose::RejoinResponse => PollAnswer::PollNothing,
-        Purpose::SinglePoll => PollAnswer::PollNothing,
         Purpose::SingleReceive => PollAnswer::PollMacError,
-        Purpose::TimeoutResponse(_) => PollAnswer::PollNothing,
+        Purpose::RejoinResponse | Purpose::SinglePoll | Purpose::TimeoutResponse(_) => {
+            PollAnswer::PollNothing
+        }
     }
 }
 
 // The tick of the parent's timer.
-pub fn decide_tick(control: Control, parent: Neighbor, elapsed_ms: u32) -> Decision
+pub fn decide_tick(control: Control, parent: Option<NwkNeighbor>, elapsed_ms: u32) -> Decision
     ensures { result ≡ tick_told (nlme_ticked parent elapsed_ms control.nlme) control }
 {
     let ticked = control.nlme.tick_parent_timeout(parent, elapsed_ms);
@@ -139,32 +137,18 @@ pub fn refresh_timeout(control: Control) -> Decision
     operation::telling(next, Step::Done)
 }
 
-fn with_signals(control: Control, signals: Signals) -> Control
-    ensures { result ≡ with_nlme (with_signals signals control.nlme) control }
-{
-    let mut nlme = control.nlme;
-    nlme.signals = signals;
-    operation::with_nlme(control, nlme)
-}
-
 // The leave indication is taken.
-pub fn take_leave(control: Control) -> Decision
+pub fn take_leave(mut control: Control) -> Decision
     ensures { result ≡ leave_taken control }
 {
-    let signals = control.nlme.signals;
-    let slot = signals.leave_indication;
-    let taken = signals.with_leave_indication(LeaveIndicationSlot::NoLeaveIndication);
-    let next = with_signals(control, taken);
-    operation::telling(next, Step::LeaveTaken(slot))
+    let taken = control.nlme.signals.leave_indication.take();
+    operation::telling(control, Step::LeaveTaken(taken))
 }
 
 // The status indication is taken.
-pub fn take_status(control: Control) -> Decision
+pub fn take_status(mut control: Control) -> Decision
     ensures { result ≡ status_taken control }
 {
-    let signals = control.nlme.signals;
-    let slot = signals.nwk_status_indication;
-    let taken = signals.with_status_indication(StatusIndicationSlot::NoStatusIndication);
-    let next = with_signals(control, taken);
-    operation::telling(next, Step::StatusTaken(slot))
+    let taken = control.nlme.signals.nwk_status_indication.take();
+    operation::telling(control, Step::StatusTaken(taken))
 }

@@ -4,8 +4,8 @@ ghost use Rattle.nlme.specs.Nlme.{timeout_requested};
 ghost use Rattle.operation.specs.Operation.{with_nlme, ending, poll_on};
 ghost use Rattle.exchange.specs.Exchange.{timeout_failed, accepted, no_timeout_response, requesting, timeout_started, timeout_goes_on, timeout_request_sent};
 
-use management::{KeepaliveAnswer, NegotiationAnswer, TimeoutResponseSlot};
-use nib::{Neighbor, NwkNeighbor};
+use management::{KeepaliveAnswer, NegotiationAnswer};
+use nib::NwkNeighbor;
 use nlme::Nlme;
 use operation::{Control, Decision, Phase, Purpose, Step, TimeoutFor, TransmissionFor};
 
@@ -23,51 +23,49 @@ fn keepalive_over(control: Control, nlme: Nlme, answer: KeepaliveAnswer) -> Deci
 }
 
 // A keepalive that fails signals it, whatever the reason; a negotiation says the reason.
+#[tactic(auto, unfolding(crate::specs::Exchange::timeout_failed))]
 fn timeout_failed(
     control: Control,
     answer: NegotiationAnswer,
     purpose: TimeoutFor,
-    parent: Neighbor,
+    parent: Option<NwkNeighbor>,
 ) -> Decision
     ensures { result ≡ timeout_failed answer purpose parent control }
 {
     match purpose {
-        TimeoutFor::Negotiation => {
-            return operation::ending(control, Step::NegotiationOver(answer));
-        }
+        TimeoutFor::Negotiation => operation::ending(control, Step::NegotiationOver(answer)),
         TimeoutFor::Keepalive => {
             let failed = control.nlme.parent_link_failure(parent);
-            return keepalive_over(control, failed, KeepaliveAnswer::KeepaliveParentLinkFailure);
+            keepalive_over(control, failed, KeepaliveAnswer::KeepaliveParentLinkFailure)
         }
     }
 }
 
 // The parent answered with status 0.
+#[tactic(auto, unfolding(crate::specs::Exchange::accepted))]
 fn accepted(control: Control, purpose: TimeoutFor) -> Decision
     ensures { result ≡ accepted purpose control }
 {
     match purpose {
         TimeoutFor::Negotiation => {
-            return operation::ending(
+            operation::ending(
                 control,
                 Step::NegotiationOver(NegotiationAnswer::Negotiated),
-            );
+            )
         }
         TimeoutFor::Keepalive => {
             let refreshed = control.nlme.refresh_parent_timeout();
-            return keepalive_over(control, refreshed, KeepaliveAnswer::KeepaliveOk);
+            keepalive_over(control, refreshed, KeepaliveAnswer::KeepaliveOk)
         }
     }
 }
 
 // No timeout response is left in its slot.
-fn no_timeout_response(control: Control) -> Control
+fn no_timeout_response(mut control: Control) -> Control
     ensures { result ≡ no_timeout_response control }
 {
-    let mut nlme = control.nlme;
-    let signals = nlme.signals;
-    nlme.signals = signals.with_timeout_response(TimeoutResponseSlot::NoTimeoutResponse);
-    operation::with_nlme(control, nlme)
+    control.nlme.signals.timeout_response = None;
+    control
 }
 
 // The send of a timeout request, before its polls.
@@ -85,42 +83,33 @@ fn request_timeout(control: Control, purpose: TimeoutFor, parent: NwkNeighbor) -
 }
 
 // The start of a negotiation or keepalive.
-pub fn start_timeout_request(control: Control, purpose: TimeoutFor, parent: Neighbor) -> Decision
+#[tactic(auto, unfolding(crate::specs::Exchange::timeout_started))]
+pub fn start_timeout_request(
+    control: Control,
+    purpose: TimeoutFor,
+    parent: Option<NwkNeighbor>,
+) -> Decision
     ensures { result ≡ timeout_started purpose parent control }
 {
     let ready = no_timeout_response(control);
     match parent {
-        Neighbor::Absent => {
-            return timeout_failed(
-                ready,
-                NegotiationAnswer::NegotiationNotJoined,
-                purpose,
-                parent,
-            );
-        }
-        Neighbor::Entry(p) => return request_timeout(ready, purpose, p),
+        None => timeout_failed(
+            ready,
+            NegotiationAnswer::NegotiationNotJoined,
+            purpose,
+            None,
+        ),
+        Some(parent) => request_timeout(ready, purpose, parent),
     }
 }
 
 // Without a timeout response the polls go on while any is left.
-fn timeout_missing(control: Control, purpose: TimeoutFor, parent: Neighbor) -> Decision
+#[tactic(auto, using(operation::proofs::Polls::polls_on))]
+fn timeout_missing(control: Control, purpose: TimeoutFor, parent: Option<NwkNeighbor>) -> Decision
     ensures { result ≡ poll_on (Purpose.TimeoutResponse purpose) parent (timeout_failed NegotiationAnswer.NotNegotiated purpose parent) control }
 {
-    let polling = operation::poll_on(control, parent);
-    let asked = polling.parent;
-    match asked {
-        Neighbor::Absent => {
-            return timeout_failed(
-                polling.control,
-                NegotiationAnswer::NotNegotiated,
-                purpose,
-                parent,
-            );
-        }
-        Neighbor::Entry(p) => {
-            return operation::poll_parent(polling.control, Purpose::TimeoutResponse(purpose), p);
-        }
-    }
+    let over = |control| timeout_failed(control, NegotiationAnswer::NotNegotiated, purpose, parent);
+    operation::next_poll(control, Purpose::TimeoutResponse(purpose), parent).unwrap_or_else(over)
 }
 
 // A timeout response ends the polls, and its status decides.
@@ -128,7 +117,7 @@ fn decide_timeout_response(
     control: Control,
     status: u8,
     purpose: TimeoutFor,
-    parent: Neighbor,
+    parent: Option<NwkNeighbor>,
 ) -> Decision
     ensures { result ≡ cond (eqb status 0) (accepted purpose (no_timeout_response control)) (timeout_failed NegotiationAnswer.NotNegotiated purpose parent (no_timeout_response control)) }
 {
@@ -140,25 +129,27 @@ fn decide_timeout_response(
 }
 
 // The polls go on, or are over.
-pub fn timeout_goes_on(control: Control, purpose: TimeoutFor, parent: Neighbor) -> Decision
+#[tactic(auto, unfolding(crate::specs::Exchange::timeout_answered_by))]
+pub fn timeout_goes_on(
+    control: Control,
+    purpose: TimeoutFor,
+    parent: Option<NwkNeighbor>,
+) -> Decision
     ensures { result ≡ timeout_goes_on purpose parent control }
 {
-    let signals = control.nlme.signals;
-    let slot = signals.timeout_response;
-    match slot {
-        TimeoutResponseSlot::NoTimeoutResponse => return timeout_missing(control, purpose, parent),
-        TimeoutResponseSlot::HasTimeoutResponse(response) => {
-            return decide_timeout_response(control, response.status, purpose, parent);
-        }
+    match control.nlme.signals.timeout_response {
+        None => timeout_missing(control, purpose, parent),
+        Some(response) => decide_timeout_response(control, response.status, purpose, parent),
     }
 }
 
 // The outcome of the request's send.
+#[tactic(auto, unfolding(crate::specs::Exchange::timeout_request_sent))]
 pub fn decide_timeout_request(
     control: Control,
     purpose: TimeoutFor,
     sent: bool,
-    parent: Neighbor,
+    parent: Option<NwkNeighbor>,
 ) -> Decision
     ensures { result ≡ timeout_request_sent purpose sent parent control }
 {

@@ -1,20 +1,19 @@
 -- What can be said of a program's edges. Which bytes are read, and whether a write fails, is the system's.
-use Rattle.std.specs.Prelude.{ℕ, ◌≡◌, ◌≤◌, Bool, true, List, ltb, length, take}
-use Rattle.filter.specs.declared.Input.{Input}
+use Rattle.std.specs.Prelude.{ℕ, ◌≡◌, ◌≤◌, Bool, List, Result, IsOk, IfOk, ltb, length, take}
+use Rattle.filter.specs.declared.Failed.{Failed}
 
 -- a program has an argument: the first of the words that it was started with is its own name
 abbrev pub has_argument : ℕ → Bool
 has_argument words = ltb 1 words
 
 -- no bytes are always written
-abbrev pub Written : List ℕ → Bool → Type 0
-Written bytes r = length bytes ≡ 0 → r ≡ true
+abbrev pub Written : List ℕ → Result (Unit {0}) Failed → Type 0
+Written bytes r = length bytes ≡ 0 → IsOk r
 
 -- the buffer has so many bytes, and so its first ones are as many
 abbrev pub Counts : ℕ → List ℕ → Type 0
 Counts n buf = (n ≤ length buf) × (n ≡ length (take n buf))
 
 -- the bytes that were read lie within the buffer
-abbrev pub Within : Input → List ℕ → Type 0
-Within (Input.Bytes n) buf = Counts n buf
-Within Input.Failed buf = Unit {0}
+abbrev pub Within : Result ℕ Failed → List ℕ → Type 0
+Within r buf = IfOk r (λ n. Counts n buf)

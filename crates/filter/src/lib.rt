@@ -11,19 +11,14 @@ use std::fmt::Display;
 use std::io;
 use std::io::{ErrorKind, Read};
 
-// What was read: so many bytes at the start of the buffer, none where the input is over; or the read failed, and was told of.
-#[derive(Clone, Copy)]
-pub enum Input {
-    Bytes(usize),
-    Failed,
-}
+// A read or a write failed. Standard error was told why, unless it was that nobody reads a pipe any more.
+#[derive(Clone, Copy, Debug, PartialEq, Eq)]
+pub struct Failed;
 
 // What an error's text says in words: the system's errors have their number in brackets behind it.
 fn in_words(text: &str) -> &str {
-    match text.split_once(" (os error ") {
-        Some((words, _)) => words,
-        None => text,
-    }
+    text.split_once(" (os error ")
+        .map_or(text, |(words, _)| words)
 }
 
 // The line on standard error.
@@ -32,38 +27,32 @@ fn say<R: Eprint, D: Display + Drop>(rt: &R, program: &[u8], edge: &str, reason:
     let _ = eprintln!(rt; "{name}: {edge}: {reason}");
 }
 
-// Tells why a call failed on one of the program's edges.
-fn tell<R: Eprint + Alloc>(rt: &R, program: &[u8], edge: &str, error: io::Error) {
+// Tells why a call failed on one of the program's edges, and answers that it failed.
+fn told<R: Eprint + Alloc>(rt: &R, program: &[u8], edge: &str, error: io::Error) -> Failed {
     match error.to_string(rt.alloc()) {
         Ok(text) => say(rt, program, edge, in_words(text.as_str())),
         Err(_) => say(rt, program, edge, error),
     }
+    Failed
 }
 
-// Writes all of these bytes to standard output, and answers whether they were written. Of a pipe that nobody reads any more nothing is told.
-pub fn write<R: Print + Eprint + Alloc>(rt: &R, program: &[u8], bytes: &[u8]) -> bool
+// Writes all of these bytes to standard output. Of a pipe that nobody reads any more nothing is told.
+pub fn write<R: Print + Eprint + Alloc>(rt: &R, program: &[u8], bytes: &[u8]) -> Result<(), Failed>
     ensures { Written bytes.now result }
 {
-    if bytes.len() == 0 {
-        return true;
+    if bytes.is_empty() {
+        return Ok(());
     }
     match rt.write_all(bytes) {
-        Ok(()) => true,
-        Err(error) => {
-            if error.kind() != ErrorKind::BrokenPipe {
-                tell(rt, program, "standard output", error);
-            }
-            false
-        }
+        Ok(()) => Ok(()),
+        Err(error) if error.kind() == ErrorKind::BrokenPipe => Err(Failed),
+        Err(error) => Err(told(rt, program, "standard output", error)),
     }
 }
 
 // Whether the program was started with a word at this place; at 0 stands its own name.
 fn has_word<R: Env>(rt: &R, i: usize) -> bool {
-    match rt.arg(i, &mut [0u8; 1]) {
-        Err(FillError::NotPresent) => false,
-        _ => true,
-    }
+    !matches!(rt.arg(i, &mut [0u8; 1]), Err(FillError::NotPresent))
 }
 
 // How many words the program was started with: its own name, and its arguments.
@@ -91,16 +80,13 @@ pub fn print_usage<R: Print + Eprint + Alloc>(
     if words <= 1 {
         return false;
     }
-    write(rt, program, usage);
+    let _ = write(rt, program, usage);
     true
 }
 
 // Whether a read that gave this was interrupted before a byte came.
 fn is_interrupted(got: &io::Result<usize>) -> bool {
-    match got {
-        Ok(_) => false,
-        Err(error) => error.kind() == ErrorKind::Interrupted,
-    }
+    matches!(got, Err(error) if error.kind() == ErrorKind::Interrupted)
 }
 
 // A read; one that was interrupted is made again. A proved loop has to end: this one has more turns than any run uses up.
@@ -116,34 +102,34 @@ fn read_once<I: Read>(input: &mut I, buf: &mut [u8]) -> io::Result<usize>
     input.read(buf)
 }
 
-// Reads what there is on standard input, once there is some.
-pub fn read<R: io::Input + Eprint + Alloc>(rt: &R, program: &[u8], buf: &mut [u8]) -> Input
+// Reads what there is on standard input, once there is some: so many bytes at the start of the buffer, none where the input is over.
+pub fn read<R: io::Input + Eprint + Alloc>(
+    rt: &R,
+    program: &[u8],
+    buf: &mut [u8],
+) -> Result<usize, Failed>
     ensures { Within result buf.new }
 {
-    match read_once(&mut rt.reader(), buf) {
-        Ok(n) => Input::Bytes(n),
-        Err(error) => {
-            tell(rt, program, "standard input", error);
-            Input::Failed
-        }
-    }
+    read_once(&mut rt.reader(), buf).map_err(|error| told(rt, program, "standard input", error))
 }
 
-// Reads standard input until the buffer is full or the input is over.
-pub fn read_full<R: io::Input + Eprint + Alloc>(rt: &R, program: &[u8], buf: &mut [u8]) -> Input
+// Reads standard input until the buffer is full or the input is over: so many bytes at the start of the buffer.
+pub fn read_full<R: io::Input + Eprint + Alloc>(
+    rt: &R,
+    program: &[u8],
+    buf: &mut [u8],
+) -> Result<usize, Failed>
     ensures { Within result buf.new }
 {
     let mut done: usize = 0;
     while done < buf.len() {
-        let Input::Bytes(n) = read(rt, program, &mut buf[done..]) else {
-            return Input::Failed;
-        };
+        let n = read(rt, program, &mut buf[done..])?;
         if n == 0 {
-            return Input::Bytes(done);
+            break;
         }
         done += n;
     }
-    Input::Bytes(done)
+    Ok(done)
 }
 
 #[cfg(test)]
@@ -197,10 +183,9 @@ mod tests {
     fn a_read_that_fails_is_made_once(rt: HostRuntime) -> Result<(), Fail> {
         let mut buf = [0u8; 4];
         let mut input = Failing { tries: 0 };
-        let kind = match read_once(&mut input, &mut buf) {
-            Ok(_) => None,
-            Err(error) => Some(error.kind()),
-        };
+        let kind = read_once(&mut input, &mut buf)
+            .err()
+            .map(|error| error.kind());
         assert_eq!(rt; kind, Some(ErrorKind::IsADirectory));
         assert_eq!(rt; input.tries, 1);
         Ok(())

@@ -1,8 +1,7 @@
 -- The association (01, "Join request and confirm"; Zigbee 3.2.2.13 and 3.6.1.4.1.1).
--- The candidate being tried and the next one are entries, seen with the IEEE address known of their short address; `Absent` where there is none.
-use Rattle.std.specs.Prelude.{ℕ, Bool, true, false, cond, eqb}
+-- The candidate being tried and the next one are entries, seen with the IEEE address known of their short address; `None` where there is none.
+use Rattle.std.specs.Prelude.{Result, Ok, Err, Option, Some, None, ℕ, Bool, true, false, cond, eqb}
 use Rattle.nib.specs.declared.NwkNeighbor.{NwkNeighbor}
-use Rattle.nib.specs.declared.Neighbor.{Neighbor}
 use Rattle.nib.specs.declared.CapabilityInformation.{CapabilityInformation}
 use Rattle.discovery.specs.Mlme.{mac_capabilities}
 use Rattle.management.specs.declared.NlmeJoinStatus.{NlmeJoinStatus}
@@ -14,12 +13,11 @@ use Rattle.operation.specs.declared.Phase.{Phase}
 use Rattle.operation.specs.declared.Control.{Control}
 use Rattle.operation.specs.declared.AssociateRequest.{AssociateRequest}
 use Rattle.operation.specs.declared.RadioRequest.{RadioRequest}
-use Rattle.operation.specs.declared.Note.{Note}
 use Rattle.operation.specs.declared.Step.{Step}
 use Rattle.operation.specs.declared.Move.{Move}
 use Rattle.operation.specs.declared.Decision.{Decision}
 use Rattle.join.specs.declared.association.AssociationResponse.{AssociationResponse}
-use Rattle.join.specs.declared.association.AssociationOutcome.{AssociationOutcome}
+use Rattle.discovery.specs.declared.mlme.MacError.{MacError}
 
 -- "A failed confirm has address 0xffff and zeros" (Zigbee 3.2.2.13.3)
 abbrev pub failure : NlmeJoinStatus → NlmeJoinConfirm
@@ -52,7 +50,7 @@ associate_request e c =
     }
 
 unfoldable pub associating : NwkNeighbor → Control → Decision
-associating e c = decided Move.TakeNext Note.NoNote (Step.Ask (RadioRequest.Associate (associate_request e c))) (in_phase Phase.Association c)
+associating e c = decided Move.TakeNext None (Step.Ask (RadioRequest.Associate (associate_request e c))) (in_phase Phase.Association c)
 
 -- the start: parent information, timeout index and timer are reset; "No candidate: NotPermitted. Then capabilities are stored and candidates tried in order"
 abbrev pub reset_negotiation : Control → Control
@@ -61,9 +59,9 @@ reset_negotiation c = with_nlme (negotiation_reset c.nlme) c
 abbrev pub store_capabilities : CapabilityInformation → Control → Control
 store_capabilities i c = with_nlme (with_nib (with_capabilities i c.nlme.nib) c.nlme) c
 
-unfoldable pub join_started : CapabilityInformation → Neighbor → Control → Decision
-join_started i Neighbor.Absent c = failing NlmeJoinStatus.NotPermitted (reset_negotiation c)
-join_started i (Neighbor.Entry e) c = associating e (store_capabilities i (reset_negotiation c))
+unfoldable pub join_started : CapabilityInformation → Option NwkNeighbor → Control → Decision
+join_started i None c = failing NlmeJoinStatus.NotPermitted (reset_negotiation c)
+join_started i (Some e) c = associating e (store_capabilities i (reset_negotiation c))
 
 -- the status of an association or rejoin response other than 0, which is success (IEEE 802.15.4, association response):
 -- 1 at capacity, 2 access denied; "any other, or a radio error, MacError"
@@ -84,7 +82,7 @@ joined_confirm r e =
     }
 
 unfoldable pub joined_by : AssociationResponse → NwkNeighbor → Control → Decision
-joined_by r e c = decided Move.JoinTried Note.NoNote (Step.Joined (joined_confirm r e)) (in_phase Phase.Idle (joined_control r e c))
+joined_by r e c = decided Move.JoinTried None (Step.Joined (joined_confirm r e)) (in_phase Phase.Idle (joined_control r e c))
 
 -- "Status 1 and 2 clear potential parent", by what they give
 abbrev pub clears : NlmeJoinStatus → Bool
@@ -97,16 +95,16 @@ clears NlmeJoinStatus.NoNetworks = false
 clears NlmeJoinStatus.MacError = false
 
 -- a candidate has failed: the next one is tried, or "The last candidate's status stands"
-unfoldable pub candidate_failed : NlmeJoinStatus → Neighbor → Control → Decision
-candidate_failed st Neighbor.Absent c = clearing (clears st) (failing st c)
-candidate_failed st (Neighbor.Entry e) c = clearing (clears st) (associating e c)
+unfoldable pub candidate_failed : NlmeJoinStatus → Option NwkNeighbor → Control → Decision
+candidate_failed st None c = clearing (clears st) (failing st c)
+candidate_failed st (Some e) c = clearing (clears st) (associating e c)
 
 -- a success with no candidate being tried, which no run of calls leads to, counts as a radio error
-unfoldable pub succeeded : AssociationResponse → Neighbor → Neighbor → Control → Decision
-succeeded r Neighbor.Absent next c = candidate_failed NlmeJoinStatus.MacError next c
-succeeded r (Neighbor.Entry e) next c = joined_by r e c
+unfoldable pub succeeded : AssociationResponse → Option NwkNeighbor → Option NwkNeighbor → Control → Decision
+succeeded r None next c = candidate_failed NlmeJoinStatus.MacError next c
+succeeded r (Some e) next c = joined_by r e c
 
-unfoldable pub associated : AssociationOutcome → Neighbor → Neighbor → Control → Decision
-associated AssociationOutcome.AssociationFailed tried next c = candidate_failed NlmeJoinStatus.MacError next c
-associated (AssociationOutcome.Associated r) tried next c =
+unfoldable pub associated : Result AssociationResponse MacError → Option NwkNeighbor → Option NwkNeighbor → Control → Decision
+associated (Err e) tried next c = candidate_failed NlmeJoinStatus.MacError next c
+associated (Ok r) tried next c =
     cond (eqb r.status 0) (succeeded r tried next c) (candidate_failed (failed_status r.status) next c)

@@ -3,9 +3,9 @@ ghost use Rattle.std.specs.Prelude.{◌≡◌};
 ghost use Rattle.operation.specs.declared.RadioRequest.TheVariants.{Associate};
 ghost use Rattle.join.specs.Join.{clearing, associate_request, associating, join_started, joined_control, joined_confirm, joined_by, clears, candidate_failed, succeeded, associated};
 
-use discovery::mlme;
+use discovery::mlme::{self, MacError};
 use management::{NlmeJoinConfirm, NlmeJoinStatus};
-use nib::{CapabilityInformation, IeeeAddress, Neighbor, NwkNeighbor, ShortAddress};
+use nib::{CapabilityInformation, IeeeAddress, Nib, NwkNeighbor, ShortAddress};
 use operation::{AssociateRequest, Control, Decision, Move, Phase, RadioRequest, Step};
 
 // The answer of a candidate: its status, the short address assigned and this device's IEEE address.
@@ -16,30 +16,20 @@ pub struct AssociationResponse {
     pub device_address: IeeeAddress,
 }
 
-// The outcome of an association: the answer of the candidate, or a radio error.
-#[derive(Clone, Copy)]
-pub enum AssociationOutcome {
-    Associated(AssociationResponse),
-    AssociationFailed,
-}
-
 // The request to associate with an entry.
 fn associate_request(control: Control, entry: NwkNeighbor) -> RadioRequest
     ensures { result ≡ Associate (associate_request entry control) }
 {
-    let pan_id = entry.pan_id;
-    let address = entry.network_address;
-    let stored = control.nlme.nib.capability_information;
-    let capabilities = mlme::build_mac_capabilities(stored);
     RadioRequest::Associate(AssociateRequest {
         channel: entry.logical_channel,
-        pan_id,
-        address,
-        capabilities,
+        pan_id: entry.pan_id,
+        address: entry.network_address,
+        capabilities: mlme::build_mac_capabilities(control.nlme.nib.capability_information),
     })
 }
 
 // An association with an entry is requested; `clear` says whether the candidate tried before it is no longer a potential parent.
+#[tactic(auto, unfolding(crate::specs::Join::associating))]
 fn request_association(control: Control, clear: bool, entry: NwkNeighbor) -> Decision
     ensures { result ≡ clearing clear (associating entry control) }
 {
@@ -48,122 +38,115 @@ fn request_association(control: Control, clear: bool, entry: NwkNeighbor) -> Dec
 }
 
 // The start of a join whose candidates are chosen.
+#[tactic(auto, unfolding(crate::specs::Join::join_started, crate::specs::Join::associating))]
 pub fn start_join(
     control: Control,
     capability_information: CapabilityInformation,
-    next: Neighbor,
+    next: Option<NwkNeighbor>,
 ) -> Decision
     ensures { result ≡ join_started capability_information next control }
 {
-    let mut begun = crate::reset_negotiation(control);
+    let reset = crate::reset_negotiation(control);
     match next {
-        Neighbor::Absent => return crate::failing(begun, NlmeJoinStatus::NotPermitted),
-        Neighbor::Entry(e) => {
-            begun = crate::store_capabilities(begun, capability_information);
-            return request_association(begun, false, e);
+        None => crate::failing(reset, NlmeJoinStatus::NotPermitted),
+        Some(entry) => {
+            let stored = crate::store_capabilities(reset, capability_information);
+            request_association(stored, false, entry)
         }
     }
 }
 
 // The control part once the entry being tried is the parent.
-fn joined_control(control: Control, response: AssociationResponse, entry: NwkNeighbor) -> Control
+fn joined_control(
+    mut control: Control,
+    response: AssociationResponse,
+    entry: NwkNeighbor,
+) -> Control
     ensures { result ≡ joined_control response entry control }
 {
-    let mut nib = control.nlme.nib;
-    let network_address = response.association_address;
-    let ieee_address = response.device_address;
-    let extended_pan_id = entry.extended_pan_id;
-    let pan_id = entry.pan_id;
-    nib.network_address = network_address;
-    nib.ieee_address = ieee_address;
-    nib.extended_panid = extended_pan_id;
-    nib.panid = pan_id;
-    nib.update_id = entry.update_id;
-    crate::with_nib(control, nib)
+    control.nlme.nib = Nib {
+        network_address: response.association_address,
+        ieee_address: response.device_address,
+        extended_panid: entry.extended_pan_id,
+        panid: entry.pan_id,
+        update_id: entry.update_id,
+        ..control.nlme.nib
+    };
+    control
 }
 
 fn joined_confirm(response: AssociationResponse, entry: NwkNeighbor) -> NlmeJoinConfirm
     ensures { result ≡ joined_confirm response entry }
 {
-    let network_address = response.association_address;
-    let extended_pan_id = entry.extended_pan_id;
     NlmeJoinConfirm {
         status: NlmeJoinStatus::Success,
-        network_address,
-        extended_pan_id,
+        network_address: response.association_address,
+        extended_pan_id: entry.extended_pan_id,
         channel: entry.logical_channel,
     }
 }
 
 // The candidate being tried becomes the parent.
-fn joined_by(mut control: Control, response: AssociationResponse, entry: NwkNeighbor) -> Decision
+#[tactic(auto, unfolding(crate::specs::Join::joined_by))]
+fn joined_by(control: Control, response: AssociationResponse, entry: NwkNeighbor) -> Decision
     ensures { result ≡ joined_by response entry control }
 {
     let step = Step::Joined(joined_confirm(response, entry));
-    control = joined_control(control, response, entry);
-    crate::moving(control, false, Move::JoinTried, step, Phase::Idle)
+    let joined = joined_control(control, response, entry);
+    crate::moving(joined, false, Move::JoinTried, step, Phase::Idle)
 }
 
 // Whether a candidate that has failed with a status is no longer a potential parent.
 fn clears(status: NlmeJoinStatus) -> bool
     ensures { result ≡ clears status }
 {
-    match status {
-        NlmeJoinStatus::PanAtCapacity => true,
-        NlmeJoinStatus::PanAccessDenied => true,
-        NlmeJoinStatus::Success => false,
-        NlmeJoinStatus::InvalidRequest => false,
-        NlmeJoinStatus::NotPermitted => false,
-        NlmeJoinStatus::NoNetworks => false,
-        NlmeJoinStatus::MacError => false,
-    }
+    matches!(
+        status,
+        NlmeJoinStatus::PanAtCapacity | NlmeJoinStatus::PanAccessDenied
+    )
 }
 
 // A candidate has failed: the next one is tried, or its status stands.
-fn candidate_failed(control: Control, status: NlmeJoinStatus, next: Neighbor) -> Decision
+#[tactic(auto, unfolding(crate::specs::Join::candidate_failed))]
+fn candidate_failed(control: Control, status: NlmeJoinStatus, next: Option<NwkNeighbor>) -> Decision
     ensures { result ≡ candidate_failed status next control }
 {
     let clear = clears(status);
     match next {
-        Neighbor::Absent => return crate::failing_on(control, clear, status),
-        Neighbor::Entry(e) => return request_association(control, clear, e),
+        None => crate::failing_on(control, clear, status),
+        Some(entry) => request_association(control, clear, entry),
     }
 }
 
 // Status 0. With no candidate being tried it counts as a radio error.
+#[tactic(auto, unfolding(crate::specs::Join::succeeded))]
 fn succeeded(
     control: Control,
     response: AssociationResponse,
-    tried: Neighbor,
-    next: Neighbor,
+    tried: Option<NwkNeighbor>,
+    next: Option<NwkNeighbor>,
 ) -> Decision
     ensures { result ≡ succeeded response tried next control }
 {
     match tried {
-        Neighbor::Absent => return candidate_failed(control, NlmeJoinStatus::MacError, next),
-        Neighbor::Entry(e) => return joined_by(control, response, e),
+        None => candidate_failed(control, NlmeJoinStatus::MacError, next),
+        Some(entry) => joined_by(control, response, entry),
     }
 }
 
-// The outcome of an association.
+// The outcome of an association: the answer of the candidate, or a radio error.
+#[tactic(auto, unfolding(crate::specs::Join::associated))]
 pub fn decide_association(
     control: Control,
-    outcome: AssociationOutcome,
-    tried: Neighbor,
-    next: Neighbor,
+    outcome: Result<AssociationResponse, MacError>,
+    tried: Option<NwkNeighbor>,
+    next: Option<NwkNeighbor>,
 ) -> Decision
     ensures { result ≡ associated outcome tried next control }
 {
     match outcome {
-        AssociationOutcome::AssociationFailed => {
-            return candidate_failed(control, NlmeJoinStatus::MacError, next);
-        }
-        AssociationOutcome::Associated(response) => {
-            let status = response.status;
-            if status == 0 {
-                return succeeded(control, response, tried, next);
-            }
-            return candidate_failed(control, crate::failed_status(status), next);
-        }
+        Ok(response) if response.status == 0 => succeeded(control, response, tried, next),
+        Ok(response) => candidate_failed(control, crate::failed_status(response.status), next),
+        Err(MacError) => candidate_failed(control, NlmeJoinStatus::MacError, next),
     }
 }

@@ -5,10 +5,8 @@ ghost use Rattle.operation.specs.Operation.{with_nlme, with_polls, awaiting, in_
 ghost use Rattle.join.specs.Rejoin.{invalid, resolved, operation_for, no_response, rejoin_request, trying, scan_or_end, try_remembered, begun, rejoin_started, adopting, try_next, try_failed, remembering, rejoined, responded, try_goes_on, request_sent};
 
 use management::frame::{SentCommand, SentFrame};
-use management::{
-    NlmeJoinConfirm, NlmeJoinRequest, NlmeJoinStatus, RejoinResponse, RejoinResponseSlot,
-};
-use nib::{ExtendedPanId, Neighbor, NwkNeighbor, neighbor_table};
+use management::{NlmeJoinConfirm, NlmeJoinRequest, NlmeJoinStatus, RejoinResponse};
+use nib::{ExtendedPanId, NwkNeighbor, neighbor_table};
 use nlme::{Nlme, Transmission};
 use operation::{
     Control, Decision, Move, Note, Operation, Phase, Purpose, RadioRequest, ScanFor, Step,
@@ -19,47 +17,37 @@ use operation::{
 pub const REJOIN_RESPONSE_POLL_RETRIES: u8 = 20;
 
 // Whether the answer is InvalidRequest: with no address of this device's own, or for another network than the remembered one.
+#[tactic(auto, unfolding(crate::specs::Rejoin::invalid))]
 fn is_invalid(nlme: Nlme, request: NlmeJoinRequest) -> bool
     ensures { result ≡ invalid request nlme }
 {
-    let own = nlme.nib.network_address.0;
-    let remembered = nlme.nib.extended_panid.0;
-    let requested = request.extended_pan_id.0;
-    if own == nib::NWK_UNASSIGNED_ADDRESS {
-        return true;
-    }
-    if remembered == 0 {
-        return false;
-    }
-    if requested == 0 {
-        return false;
-    }
-    remembered != requested
+    let own = nlme.nib.network_address;
+    let remembered = nlme.nib.extended_panid;
+    let requested = request.extended_pan_id;
+    own.0 == nib::NWK_UNASSIGNED_ADDRESS
+        || remembered.0 != 0 && requested.0 != 0 && remembered != requested
 }
 
 // The network to rejoin.
 fn network_of(nlme: Nlme, request: NlmeJoinRequest) -> ExtendedPanId
     ensures { result ≡ resolved request nlme }
 {
-    let requested = request.extended_pan_id;
-    if requested.0 == 0 {
-        return nlme.nib.extended_panid;
+    if request.extended_pan_id.0 == 0 {
+        nlme.nib.extended_panid
+    } else {
+        request.extended_pan_id
     }
-    requested
 }
 
 // What the rejoin keeps of its request.
 fn operation_for(nlme: Nlme, request: NlmeJoinRequest) -> Operation
     ensures { result ≡ operation_for request nlme }
 {
-    let phase = Phase::Idle;
-    let extended_pan_id = network_of(nlme, request);
-    let scan = request.scan;
     Operation {
-        phase,
-        extended_pan_id,
+        phase: Phase::Idle,
+        extended_pan_id: network_of(nlme, request),
         security_enabled: request.security_enabled,
-        scan,
+        scan: request.scan,
         scan_requested: false,
         channel: 0,
         polls_left: REJOIN_RESPONSE_POLL_RETRIES,
@@ -70,10 +58,7 @@ fn operation_for(nlme: Nlme, request: NlmeJoinRequest) -> Operation
 fn without_response(mut nlme: Nlme) -> Nlme
     ensures { result ≡ no_response nlme }
 {
-    let signals = nlme
-        .signals
-        .with_rejoin_response(RejoinResponseSlot::NoRejoinResponse);
-    nlme.signals = signals;
+    nlme.signals.rejoin_response = None;
     nlme
 }
 
@@ -81,17 +66,16 @@ fn without_response(mut nlme: Nlme) -> Nlme
 fn rejoin_request(control: Control, parent: NwkNeighbor) -> RadioRequest
     ensures { result ≡ rejoin_request parent control }
 {
-    let pan_id = control.nlme.nib.panid;
-    let capabilities = control.nlme.nib.capability_information;
-    let address = parent.network_address;
-    let ieee = neighbor_table::known_ieee(Neighbor::Entry(parent));
+    let ieee = neighbor_table::known_ieee(Some(parent));
     let secure = control.operation.security_enabled;
-    let header = control.nlme.command_header(address, ieee, secure);
-    let frame = SentFrame::CommandFrame(header, SentCommand::RejoinRequest(capabilities));
+    let header = control
+        .nlme
+        .command_header(parent.network_address, ieee, secure);
+    let command = SentCommand::RejoinRequest(control.nlme.nib.capability_information);
     RadioRequest::Transmit(Transmission {
-        pan_id,
-        address,
-        frame,
+        pan_id: control.nlme.nib.panid,
+        address: parent.network_address,
+        frame: SentFrame::CommandFrame(header, command),
     })
 }
 
@@ -99,24 +83,22 @@ fn rejoin_request(control: Control, parent: NwkNeighbor) -> RadioRequest
 fn ready(mut control: Control) -> Control
     ensures { result ≡ record { nlme = no_response (seq_used control.nlme); operation = with_polls 20 (awaiting (Phase.Transmission TransmissionFor.RejoinRequest) control.operation) } }
 {
-    let mut nlme = control.nlme.use_nwk_seq();
-    nlme = without_response(nlme);
     control = operation::in_phase(control, Phase::Transmission(TransmissionFor::RejoinRequest));
-    control.operation.polls_left = REJOIN_RESPONSE_POLL_RETRIES;
-    control.nlme = nlme;
-    control
+    control = operation::with_polls(control, REJOIN_RESPONSE_POLL_RETRIES);
+    operation::with_nlme(control, without_response(control.nlme.use_nwk_seq()))
 }
 
 // A try begins: the request is sent to an entry.
-fn start_try(mut control: Control, candidate: Move, note: Note, parent: NwkNeighbor) -> Decision
+#[tactic(auto, unfolding(crate::specs::Rejoin::trying))]
+fn start_try(control: Control, candidate: Move, note: Option<Note>, parent: NwkNeighbor) -> Decision
     ensures { result ≡ trying candidate note parent control }
 {
-    let step = Step::Ask(rejoin_request(control, parent));
-    control = ready(control);
-    operation::decided(control, candidate, note, step)
+    let request = rejoin_request(control, parent);
+    operation::decided(ready(control), candidate, note, Step::Ask(request))
 }
 
 // After the remembered parent: the scan, or the end where no channel is asked for.
+#[tactic(auto, unfolding(crate::specs::Rejoin::scan_or_end))]
 fn scan_or_end(mut control: Control, status: NlmeJoinStatus) -> Decision
     ensures { result ≡ scan_or_end status control }
 {
@@ -129,68 +111,69 @@ fn scan_or_end(mut control: Control, status: NlmeJoinStatus) -> Decision
 }
 
 // The remembered parent comes first.
-fn try_remembered(control: Control, parent: Neighbor) -> Decision
+#[tactic(auto, unfolding(crate::specs::Rejoin::try_remembered))]
+fn try_remembered(control: Control, parent: Option<NwkNeighbor>) -> Decision
     ensures { result ≡ try_remembered parent control }
 {
     match parent {
-        Neighbor::Absent => return scan_or_end(control, NlmeJoinStatus::InvalidRequest),
-        Neighbor::Entry(e) => return start_try(control, Move::Stay, Note::NoNote, e),
+        None => scan_or_end(control, NlmeJoinStatus::InvalidRequest),
+        Some(parent) => start_try(control, Move::Stay, None, parent),
     }
 }
 
 // The control part of a rejoin that begins.
-fn begin_rejoin(mut control: Control, request: NlmeJoinRequest) -> Control
+fn begin_rejoin(control: Control, request: NlmeJoinRequest) -> Control
     ensures { result ≡ begun request control }
 {
-    let operation = operation_for(control.nlme, request);
-    control = crate::reset_negotiation(control);
-    control = crate::store_capabilities(control, request.capability_information);
-    control.operation = operation;
-    control
+    let reset = crate::reset_negotiation(control);
+    Control {
+        operation: operation_for(control.nlme, request),
+        ..crate::store_capabilities(reset, request.capability_information)
+    }
 }
 
 // The start of a rejoin.
-pub fn start_rejoin(mut control: Control, request: NlmeJoinRequest, parent: Neighbor) -> Decision
+#[tactic(auto, unfolding(crate::specs::Rejoin::rejoin_started))]
+pub fn start_rejoin(
+    control: Control,
+    request: NlmeJoinRequest,
+    parent: Option<NwkNeighbor>,
+) -> Decision
     ensures { result ≡ rejoin_started request parent control }
 {
     if is_invalid(control.nlme, request) {
         return crate::failing(control, NlmeJoinStatus::InvalidRequest);
     }
-    control = begin_rejoin(control, request);
-    try_remembered(control, parent)
+    try_remembered(begin_rejoin(control, request), parent)
 }
 
 // The control part once a candidate is the parent.
-fn adopt(mut control: Control, e: NwkNeighbor) -> Control
-    ensures { result ≡ adopting e control }
+fn adopt(mut control: Control, entry: NwkNeighbor) -> Control
+    ensures { result ≡ adopting entry control }
 {
-    let mut nlme = control.nlme;
-    let mut nib = nlme.nib;
-    let pan_id = e.pan_id;
-    nib.panid = pan_id;
-    nib.update_id = e.update_id;
-    nlme.nib = nib;
-    control.nlme = nlme;
-    control.operation.channel = e.logical_channel;
+    control.nlme.nib.panid = entry.pan_id;
+    control.nlme.nib.update_id = entry.update_id;
+    control.operation.channel = entry.logical_channel;
     control
 }
 
 // The next candidate is tried; where there is none, the rejoin ends with a status.
-pub fn try_next(mut control: Control, status: NlmeJoinStatus, next: Neighbor) -> Decision
+#[tactic(auto, unfolding(crate::specs::Rejoin::try_next, crate::specs::Rejoin::try_candidate))]
+pub fn try_next(control: Control, status: NlmeJoinStatus, next: Option<NwkNeighbor>) -> Decision
     ensures { result ≡ try_next status next control }
 {
     match next {
-        Neighbor::Absent => return crate::failing(control, status),
-        Neighbor::Entry(e) => {
-            let note = Note::SetChannel(e.logical_channel);
-            control = adopt(control, e);
-            return start_try(control, Move::AdoptNext, note, e);
+        None => crate::failing(control, status),
+        Some(entry) => {
+            let note = Some(Note::SetChannel(entry.logical_channel));
+            start_try(adopt(control, entry), Move::AdoptNext, note, entry)
         }
     }
 }
 
 // A try has failed: the next candidate, or the scan after the remembered parent.
-fn try_failed(control: Control, status: NlmeJoinStatus, next: Neighbor) -> Decision
+#[tactic(auto, unfolding(crate::specs::Rejoin::try_failed))]
+fn try_failed(control: Control, status: NlmeJoinStatus, next: Option<NwkNeighbor>) -> Decision
     ensures { result ≡ try_failed status next control }
 {
     if control.operation.scan_requested {
@@ -204,37 +187,34 @@ fn end_rejoin(mut control: Control) -> Control
     ensures { result ≡ in_phase Phase.Idle (with_nlme (remembering control.operation.extended_pan_id control.nlme) control) }
 {
     let network = control.operation.extended_pan_id;
-    control = operation::in_phase(control, Phase::Idle);
-    if network.0 == 0 {
-        return control;
+    if network.0 != 0 {
+        control.nlme.nib.extended_panid = network;
     }
-    let mut nlme = control.nlme;
-    let mut nib = nlme.nib;
-    nib.extended_panid = network;
-    nlme.nib = nib;
-    control.nlme = nlme;
-    control
+    operation::in_phase(control, Phase::Idle)
 }
 
 // The rejoin has succeeded.
-fn finish_rejoin(mut control: Control, response: RejoinResponse) -> Decision
+#[tactic(auto, unfolding(crate::specs::Rejoin::rejoined))]
+fn finish_rejoin(control: Control, response: RejoinResponse) -> Decision
     ensures { result ≡ rejoined response control }
 {
-    let network_address = response.network_address;
-    let extended_pan_id = control.operation.extended_pan_id;
     let confirm = NlmeJoinConfirm {
         status: NlmeJoinStatus::Success,
-        network_address,
-        extended_pan_id,
+        network_address: response.network_address,
+        extended_pan_id: control.operation.extended_pan_id,
         channel: control.operation.channel,
     };
-    control = end_rejoin(control);
-    let note = Note::SetAddress(network_address);
-    operation::decided(control, Move::Stay, note, Step::Joined(confirm))
+    let note = Some(Note::SetAddress(response.network_address));
+    operation::decided(end_rejoin(control), Move::Stay, note, Step::Joined(confirm))
 }
 
 // The response ends the try.
-fn decide_response(control: Control, response: RejoinResponse, next: Neighbor) -> Decision
+#[tactic(auto, unfolding(crate::specs::Rejoin::responded))]
+fn decide_response(
+    control: Control,
+    response: RejoinResponse,
+    next: Option<NwkNeighbor>,
+) -> Decision
     ensures { result ≡ responded response next control }
 {
     if response.status == 0 {
@@ -244,46 +224,40 @@ fn decide_response(control: Control, response: RejoinResponse, next: Neighbor) -
 }
 
 // Without a response the polls go on while any is left.
-fn poll_again(control: Control, parent: Neighbor, next: Neighbor) -> Decision
+#[tactic(auto, using(operation::proofs::Polls::polls_on))]
+fn poll_again(control: Control, parent: Option<NwkNeighbor>, next: Option<NwkNeighbor>) -> Decision
     ensures { result ≡ poll_on Purpose.RejoinResponse parent (try_failed NlmeJoinStatus.MacError next) control }
 {
-    let polling = operation::poll_on(control, parent);
-    let asked = polling.parent;
-    match asked {
-        Neighbor::Absent => return try_failed(polling.control, NlmeJoinStatus::MacError, next),
-        Neighbor::Entry(e) => return operation::poll_parent(
-            polling.control,
-            Purpose::RejoinResponse,
-            e,
-        ),
-    }
-}
-
-// The response is taken.
-fn response_taken(control: Control) -> Control
-    ensures { result ≡ with_nlme (no_response control.nlme) control }
-{
-    let emptied = without_response(control.nlme);
-    operation::with_nlme(control, emptied)
+    let over = |control| try_failed(control, NlmeJoinStatus::MacError, next);
+    operation::next_poll(control, Purpose::RejoinResponse, parent).unwrap_or_else(over)
 }
 
 // Within a try: its response ends it, or the polls go on.
-pub fn try_goes_on(mut control: Control, parent: Neighbor, next: Neighbor) -> Decision
+#[tactic(auto, unfolding(crate::specs::Rejoin::answered_by))]
+pub fn try_goes_on(
+    control: Control,
+    parent: Option<NwkNeighbor>,
+    next: Option<NwkNeighbor>,
+) -> Decision
     ensures { result ≡ try_goes_on parent next control }
 {
-    let signals = control.nlme.signals;
-    let slot = signals.rejoin_response;
-    match slot {
-        RejoinResponseSlot::HasRejoinResponse(response) => {
-            control = response_taken(control);
-            return decide_response(control, response, next);
+    match control.nlme.signals.rejoin_response {
+        Some(response) => {
+            let taken = operation::with_nlme(control, without_response(control.nlme));
+            decide_response(taken, response, next)
         }
-        RejoinResponseSlot::NoRejoinResponse => return poll_again(control, parent, next),
+        None => poll_again(control, parent, next),
     }
 }
 
 // The rejoin request has been sent, or its send has failed.
-pub fn decide_request(control: Control, sent: bool, parent: Neighbor, next: Neighbor) -> Decision
+#[tactic(auto, unfolding(crate::specs::Rejoin::request_sent))]
+pub fn decide_request(
+    control: Control,
+    sent: bool,
+    parent: Option<NwkNeighbor>,
+    next: Option<NwkNeighbor>,
+) -> Decision
     ensures { result ≡ request_sent sent parent next control }
 {
     if sent {

@@ -1,16 +1,15 @@
 -- What every call does to the slot of leave indications, and to the announcement of a leave that is awaited. Assumes nothing.
+use Rattle.std.specs.Prelude.{Result, Ok, Err, Option, Some, None}
 use Prim.Native.Nat.{ℕ}
 use mathlib.Core.Path.{◌≡◌, refl, sym, ap, subst⁻¹, ◌∙◌}
 use mathlib.Core.Bool.{Bool, true, false, cond, not, ◌&&◌}
 use mathlib.Core.Logic.{inl, inr}
 use lib.Dec.{eqb, ltb}
 use Rattle.lists.proofs.Conditions.{pick_true, pick-false, by_cases}
-use Rattle.nib.specs.declared.OptionalIeee.{OptionalIeee}
 use Rattle.nib.specs.declared.ShortAddress.{ShortAddress}
 use Rattle.discovery.specs.Mlme.{descriptors_of}
 use Rattle.discovery.specs.Discovery.{short_addressed}
 use Rattle.management.specs.declared.EndDeviceTimeoutResponse.{EndDeviceTimeoutResponse}
-use Rattle.management.specs.declared.LeaveIndicationSlot.{LeaveIndicationSlot}
 use Rattle.management.specs.declared.LeavingDevice.{LeavingDevice}
 use Rattle.management.specs.declared.NlmeJoinRequest.{NlmeJoinRequest}
 use Rattle.management.specs.declared.PollAnswer.{PollAnswer}
@@ -25,9 +24,8 @@ use Rattle.nlme.specs.Nlme.{seq_used, refreshed, link_failure, expiry_signalled}
 use Rattle.nlme.specs.declared.Nlme.{Nlme}
 use Rattle.nlme.specs.Received.{rejoin_signalled, rejoin_responded, timeout_signalled, stored, timeout_responded, neighbor_leaving, neighbor_left, accepts_leave, announcement, dealt_with, leave_requested, leave_handled, handled, leave_announced}
 use Rattle.nlme.specs.declared.received.Handled.{Handled}
-use Rattle.nlme.specs.declared.received.TableChange.{TableChange}
 use Rattle.nlme.specs.declared.received.Then.{Then}
-use Rattle.operation.specs.Operation.{For, awaited, unawaited, scan_for, association_for, transmission_for, reception_for, is_idle}
+use Rattle.operation.specs.Operation.{scan_for, association_for, transmission_for, reception_for, is_idle}
 use Rattle.operation.specs.declared.Control.{Control}
 use Rattle.operation.specs.declared.Decision.{Decision}
 use Rattle.operation.specs.declared.Phase.{Phase}
@@ -39,18 +37,22 @@ use Rattle.node.specs.Looks.{parent, broadcast, next, finish}
 use Rattle.node.specs.Refusals.{refuse, start, outcome}
 use Rattle.node.specs.Calls.{with_chosen, associate, join_by, scan_failed, with_scan, scan_heard, scan_over, continuing, go_on, with_node, table_changed, after, handled_on, taught_on, processed, reception_over, after_leave, transmission_over, Call, discovery, join, send, poll, receive, timeout, scan, association, transmission, reception, elapsed, take_leave, take_status, made, answer}
 use Rattle.node.specs.declared.Answer.{Answer}
-use Rattle.node.specs.declared.ReceptionOutcome.{ReceptionOutcome}
-use Rattle.node.specs.declared.ScanOutcome.{ScanOutcome}
 use Rattle.node.specs.declared.State.{State}
 use Rattle.refusals.specs.Statement.{phase, Bad}
 use Rattle.refusals.proofs.Conditions.{Tells, holds, fails, bad-told}
 use Rattle.refusals.proofs.Decisions.{NotLeaving, NotTaken, Made, join-made, associated-made, rejoin-made, next-made, request-made, send-made, sent-made, poll_started-made, timeout-made, timeout_sent-made, continuing-made}
 use Rattle.leave_indications.specs.Statement.{indication, indicated, FromParent, Awaits, Brought, Leaves, Accepts, Requested, announcing, Indicates}
 use Rattle.leave_indications.proofs.Parent.{learned, by_parent, from_told, accepts-told}
+use Rattle.nib.specs.declared.IeeeAddress.{IeeeAddress}
+use Rattle.management.specs.declared.NlmeLeaveIndication.{NlmeLeaveIndication}
+use Rattle.discovery.specs.declared.mlme.MacError.{MacError}
+use Rattle.discovery.specs.declared.mlme.PanDescriptorList.{PanDescriptorList}
+use Rattle.operation.specs.declared.Refusal.{Refusal}
+use Rattle.operation.specs.declared.Refusal.TheVariants.{OperationUnderWay, NotAwaited, TooManyDescriptors, TooManyShortAddressed, BadState}
 
 -- A RECEIVED FRAME
 
-abbrev slot : Nlme → LeaveIndicationSlot
+abbrev slot : Nlme → Option NlmeLeaveIndication
 slot n = n.signals.leave_indication
 
 after-slot : (u : Purpose) (t : Then) (s : State) → indication (after u t s).state ≡ indication s
@@ -68,19 +70,19 @@ handled-told : (u : Purpose) (h : Handled) (s : State) → NotTaken (handled_on 
 unfolding after finish
 handled-told u h s = go h.then
   where
-    go : (t : Then) → NotTaken (after u t (table_changed h.change (with_node h.nlme s))).step
+    go : (t : Then) → NotTaken (after u t (table_changed h.removed (with_node h.nlme s))).step
     go (Then.Over a) = (continuing-made u a _ _ _).3
     go (Then.Announce a) = tt
 
-changed-control : (c : TableChange) (s : State) → (table_changed c s).control ≡ s.control
+changed-control : (c : Option ShortAddress) (s : State) → (table_changed c s).control ≡ s.control
 unfolding table_changed
-changed-control TableChange.KeepTable s = refl
-changed-control (TableChange.RemoveNeighbor a) s = refl
+changed-control None s = refl
+changed-control (Some a) s = refl
 
 -- the slot is what the frame's handling leaves in it
 handled-slot : (u : Purpose) (h : Handled) (s : State) → indication (handled_on u h s).state ≡ slot h.nlme
 handled-slot u h s =
-    after-slot u h.then (table_changed h.change (with_node h.nlme s)) ∙ ap (λ (c : Control). slot c.nlme) (changed-control h.change (with_node h.nlme s))
+    after-slot u h.then (table_changed h.removed (with_node h.nlme s)) ∙ ap (λ (c : Control). slot c.nlme) (changed-control h.removed (with_node h.nlme s))
 
 -- responses
 rejoin-slot : (r : RejoinResponse) (n : Nlme) → slot (rejoin_responded r n) ≡ slot n
@@ -120,7 +122,7 @@ module _ (u : Purpose) (s : State) (f : Source) (d : ShortAddress) (o : LeaveOpt
 
   -- without the request bit
   abbrev left : Handled
-  left = record { nlme = neighbor_left (parent here) f o.rejoin n; change = TableChange.RemoveNeighbor f.address; then = Then.Over PollAnswer.PollNothing }
+  left = record { nlme = neighbor_left (parent here) f o.rejoin n; removed = Some f.address; then = Then.Over PollAnswer.PollNothing }
 
   left_is : o.request ≡ false → whole ≡ left
   unfolding leave_handled
@@ -142,7 +144,7 @@ module _ (u : Purpose) (s : State) (f : Source) (d : ShortAddress) (o : LeaveOpt
 
   -- a request: the slot stays, and an accepted one is announced
   abbrev announced_then : Handled
-  announced_then = record { nlme = seq_used n; change = TableChange.KeepTable; then = Then.Announce (record { transmission = announcement n (parent here) (broadcast here) o; rejoin = o.rejoin }) }
+  announced_then = record { nlme = seq_used n; removed = None; then = Then.Announce (record { transmission = announcement n (parent here) (broadcast here) o; rejoin = o.rejoin }) }
 
   abbrev declined : Handled
   declined = dealt_with n PollAnswer.PollNothing
@@ -171,7 +173,7 @@ module _ (u : Purpose) (s : State) (f : Source) (d : ShortAddress) (o : LeaveOpt
 pub data Slot (s : State) (c : Call) (a : Answer) : Type 0 where
   kept : indication a.state ≡ indication s → Slot s c a
   says : (device : LeavingDevice) (rejoin : Bool) → Indicates s c device rejoin → indication a.state ≡ indicated device rejoin → Slot s c a
-  takes : c ≡ take_leave → (Bad s → ⊥) → indication a.state ≡ LeaveIndicationSlot.NoLeaveIndication → Slot s c a
+  takes : c ≡ take_leave → (Bad s → ⊥) → indication a.state ≡ None → Slot s c a
 
 pub data Next (s : State) (c : Call) (a : Answer) : Type 0 where
   stays : phase a.state ≡ phase s → Next s c a
@@ -186,7 +188,7 @@ abbrev pub Got : State → Call → Answer → Type 0
 Got s c a = Slot s c a × Next s c a × HandsOut c a
 
 module _ (s : State) (c : Call) where
-  refused-got : (k : ℕ) → Got s c (refuse k s)
+  refused-got : (k : Refusal) → Got s c (refuse k s)
   unfolding refuse
   refused-got k = (kept refl, stays refl, not_taken tt)
 
@@ -196,12 +198,12 @@ module _ (s : State) (c : Call) where
   made_got reset x d h = (kept h.1, elsewhere h.2, not_taken h.3)
 
   start-got : (a : Answer) → Got s c a → Got s c (start a s)
-  start-got a g = by_cases (Got s c) (is_idle (phase s)) (λ _. g) (refused-got 1)
+  start-got a g = by_cases (Got s c) (is_idle (phase s)) (λ _. g) (refused-got OperationUnderWay)
 
-  outcome-got : {A : Type 0} (w : For A) (g : A → State → Answer) → ((u : A) → Got s c (g u s)) → Got s c (outcome w g s)
+  outcome-got : {A : Type 0} (w : Option A) (g : A → State → Answer) → ((u : A) → Got s c (g u s)) → Got s c (outcome w g s)
   unfolding outcome
-  outcome-got (awaited u) g h = h u
-  outcome-got unawaited g h = refused-got 2
+  outcome-got (Some u) g h = h u
+  outcome-got None g h = refused-got NotAwaited
 
 -- starts
 associate-got : (s : State) (r : NlmeJoinRequest) → Got s (join r) (associate r s)
@@ -218,20 +220,20 @@ join-got s r RejoinNetwork.NwkRejoin = made_got s (join r) false _ _ (rejoin-mad
 join-got s r RejoinNetwork.ChannelChange = made_got s (join r) false _ _ (refl, refl, tt, tt)
 
 -- a scan
-scan-got : (s : State) (o : ScanOutcome) (u : ScanFor) → Got s (scan o) (scan_over o u s)
+scan-got : (s : State) (o : Result PanDescriptorList MacError) (u : ScanFor) → Got s (scan o) (scan_over o u s)
 unfolding scan_over scan_failed scan_heard with_scan with_chosen
-scan-got s o u =
-    by_cases (Got s (scan o)) o.failed (λ _. failed u)
-    (by_cases (Got s (scan o)) (ltb 27 o.list.count) (λ _. refused-got s (scan o) 3)
-    (by_cases (Got s (scan o)) (ltb 16 (short_addressed (descriptors_of o.list))) (λ _. refused-got s (scan o) 4) (found u)))
+scan-got s (Err e) u = failed u
   where
-    failed : (v : ScanFor) → Got s (scan o) (scan_failed v s)
-    failed ScanFor.Discovery = made_got s (scan o) false _ _ (refl, refl, tt, tt)
-    failed ScanFor.Rejoin = made_got s (scan o) false _ _ (refl, refl, tt, tt)
-
-    found : (v : ScanFor) → Got s (scan o) (scan_heard v (with_scan (descriptors_of o.list) s))
-    found ScanFor.Discovery = made_got s (scan o) false _ _ (refl, refl, tt, tt)
-    found ScanFor.Rejoin = made_got s (scan o) false _ _ (next-made _ _ s.control)
+    failed : (v : ScanFor) → Got s (scan (Err e)) (scan_failed v s)
+    failed ScanFor.Discovery = made_got s (scan (Err e)) false _ _ (refl, refl, tt, tt)
+    failed ScanFor.Rejoin = made_got s (scan (Err e)) false _ _ (refl, refl, tt, tt)
+scan-got s (Ok l) u =
+    by_cases (Got s (scan (Ok l))) (ltb 27 l.count) (λ _. refused-got s (scan (Ok l)) TooManyDescriptors)
+    (by_cases (Got s (scan (Ok l))) (ltb 16 (short_addressed (descriptors_of l))) (λ _. refused-got s (scan (Ok l)) TooManyShortAddressed) (found u))
+  where
+    found : (v : ScanFor) → Got s (scan (Ok l)) (scan_heard v (with_scan (descriptors_of l) s))
+    found ScanFor.Discovery = made_got s (scan (Ok l)) false _ _ (refl, refl, tt, tt)
+    found ScanFor.Rejoin = made_got s (scan (Ok l)) false _ _ (next-made _ _ s.control)
 
 -- a transmission
 left-slot-after : (rejoin : Bool) (s : State) → indication (after_leave rejoin s) ≡ indicated LeavingDevice.ThisDevice rejoin
@@ -256,15 +258,15 @@ transmission-got s ok (TransmissionFor.Leave l) w =
     (says LeavingDevice.ThisDevice l.rejoin (inr (l.purpose, ok, w, refl)) (announced-slot l.purpose l.rejoin s), elsewhere (announced-made l.purpose l.rejoin s).2, not_taken (announced-made l.purpose l.rejoin s).3)
 
 -- a poll or a receive
-indicates : {s : State} {c : Call} {f : Source} {rejoin : Bool} {b : Bool} → Leaves s c f rejoin → Tells (FromParent f s) b → (x : OptionalIeee) → f.ieee ≡ x
+indicates : {s : State} {c : Call} {f : Source} {rejoin : Bool} {b : Bool} → Leaves s c f rejoin → Tells (FromParent f s) b → (x : Option IeeeAddress) → f.ieee ≡ x
     → Indicates s c (cond b LeavingDevice.ThisDevice (neighbor_leaving x f.address)) rejoin
 indicates {f = f} l (holds p) x e = inl (f, l, p)
-indicates {f = f} l (fails p) OptionalIeee.NoIeee e = (f, l, p, e, refl)
-indicates {f = f} l (fails p) (OptionalIeee.Ieee x) e = (f, l, p, e)
+indicates {f = f} l (fails p) None e = (f, l, p, e, refl)
+indicates {f = f} l (fails p) (Some x) e = (f, l, p, e)
 
 module _ (s : State) (u : Purpose) (w : Awaits s (Phase.Reception u)) where
   abbrev call : ReceivedFrame → Call
-  call f = reception (ReceptionOutcome.Received f)
+  call f = reception (Ok (Some f))
 
   leave-got : (f : Source) (d : ShortAddress) (o : LeaveOptions) → Got s (call (ReceivedFrame.LeaveCommand f d o)) (handling u s f d o)
   leave-got f d o = go o.request refl
@@ -301,11 +303,11 @@ module _ (s : State) (u : Purpose) (w : Awaits s (Phase.Reception u)) where
   frame-got (ReceivedFrame.OtherCommand f) = plain-got _ s.control.nlme _ refl
   frame-got ReceivedFrame.OtherFrame = plain-got _ s.control.nlme _ refl
 
-  reception-got : (o : ReceptionOutcome) → Got s (reception o) (reception_over o u s)
+  reception-got : (o : Result (Option ReceivedFrame) MacError) → Got s (reception o) (reception_over o u s)
   unfolding reception_over
-  reception-got ReceptionOutcome.NoData = made_got s _ false _ _ (continuing-made u _ _ _ s.control)
-  reception-got ReceptionOutcome.ReceptionFailed = made_got s _ false _ _ (continuing-made u _ _ _ s.control)
-  reception-got (ReceptionOutcome.Received f) = frame-got f
+  reception-got (Ok None) = made_got s _ false _ _ (continuing-made u _ _ _ s.control)
+  reception-got (Err e) = made_got s _ false _ _ (continuing-made u _ _ _ s.control)
+  reception-got (Ok (Some f)) = frame-got f
 
 -- a tick
 pub tick-slot : (s : State) (ms : ℕ) → indication (made s (elapsed ms)).state ≡ indication s
@@ -313,21 +315,21 @@ unfolding expiry_signalled link_failure finish
 tick-slot s ms = by_cases (λ (n : Nlme). slot n ≡ indication s) (ticked s.control.nlme.parent_timer ms).expired (λ _. refl) refl
 
 module _ (s : State) (good : Bad s → ⊥) where
-  reception-answered : (o : ReceptionOutcome) (p : Phase) → phase s ≡ p → Got s (reception o) (outcome (reception_for p) (reception_over o) s)
+  reception-answered : (o : Result (Option ReceivedFrame) MacError) (p : Phase) → phase s ≡ p → Got s (reception o) (outcome (reception_for p) (reception_over o) s)
   unfolding outcome
   reception-answered o (Phase.Reception u) e = reception-got s u (good, e) o
-  reception-answered o Phase.Idle e = refused-got s _ 2
-  reception-answered o (Phase.Scan u) e = refused-got s _ 2
-  reception-answered o Phase.Association e = refused-got s _ 2
-  reception-answered o (Phase.Transmission u) e = refused-got s _ 2
+  reception-answered o Phase.Idle e = refused-got s _ NotAwaited
+  reception-answered o (Phase.Scan u) e = refused-got s _ NotAwaited
+  reception-answered o Phase.Association e = refused-got s _ NotAwaited
+  reception-answered o (Phase.Transmission u) e = refused-got s _ NotAwaited
 
   transmission-answered : (ok : Bool) (p : Phase) → phase s ≡ p → Got s (transmission ok) (outcome (transmission_for p) (transmission_over ok) s)
   unfolding outcome
   transmission-answered ok (Phase.Transmission u) e = transmission-got s ok u (good, e)
-  transmission-answered ok Phase.Idle e = refused-got s _ 2
-  transmission-answered ok (Phase.Scan u) e = refused-got s _ 2
-  transmission-answered ok Phase.Association e = refused-got s _ 2
-  transmission-answered ok (Phase.Reception u) e = refused-got s _ 2
+  transmission-answered ok Phase.Idle e = refused-got s _ NotAwaited
+  transmission-answered ok (Phase.Scan u) e = refused-got s _ NotAwaited
+  transmission-answered ok Phase.Association e = refused-got s _ NotAwaited
+  transmission-answered ok (Phase.Reception u) e = refused-got s _ NotAwaited
 
   call-got : (c : Call) → Got s c (made s c)
   unfolding receive_started finish
@@ -349,6 +351,6 @@ pub answer-got : (s : State) (c : Call) → Got s c (answer s c)
 unfolding answer
 answer-got s c = go (bad-told s)
   where
-    go : {b : Bool} → Tells (Bad s) b → Got s c (cond b (refuse 5 s) (made s c))
-    go (holds h) = refused-got s c 5
+    go : {b : Bool} → Tells (Bad s) b → Got s c (cond b (refuse BadState s) (made s c))
+    go (holds h) = refused-got s c BadState
     go (fails h) = call-got s h c

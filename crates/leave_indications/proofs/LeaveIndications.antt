@@ -1,12 +1,11 @@
 -- The statement on leave indications is proved. Assumes nothing.
+use Rattle.std.specs.Prelude.{Result, Ok, Option, Some, None}
 use Prim.Native.Nat.{ℕ}
 use mathlib.Core.Path.{◌≡◌, refl, sym, ap, subst, subst⁻¹, ◌∙◌}
 use mathlib.Core.Bool.{Bool, true, false, cond, false≢true}
 use mathlib.Core.Logic.{◌⊎◌, ⊎_elim, ◌↔◌, inl, inr}
 use Rattle.lists.proofs.Conditions.{pick-false, by_cases}
-use Rattle.nib.specs.declared.OptionalIeee.{OptionalIeee}
 use Rattle.nib.specs.declared.ShortAddress.{ShortAddress}
-use Rattle.management.specs.declared.LeaveIndicationSlot.{LeaveIndicationSlot}
 use Rattle.management.specs.declared.LeavingDevice.{LeavingDevice}
 use Rattle.management.specs.declared.frame.LeaveOptions.{LeaveOptions}
 use Rattle.management.specs.declared.frame.ReceivedFrame.{ReceivedFrame}
@@ -15,7 +14,7 @@ use Rattle.nlme.specs.Nlme.{refreshed}
 use Rattle.nlme.specs.Received.{neighbor_leaving}
 use Rattle.supervision.specs.declared.parent_timer.ParentTimer.{ParentTimer}
 use Rattle.exchange.specs.Exchange.{timeout_refreshed}
-use Rattle.operation.specs.Operation.{For, unawaited, is_idle, scan_for, association_for, transmission_for, reception_for}
+use Rattle.operation.specs.Operation.{is_idle, scan_for, association_for, transmission_for, reception_for}
 use Rattle.operation.specs.declared.Phase.{Phase}
 use Rattle.operation.specs.declared.Purpose.{Purpose}
 use Rattle.operation.specs.declared.Step.{Step}
@@ -24,8 +23,6 @@ use Rattle.node.specs.Looks.{finish, deciding, moved, potential_cleared}
 use Rattle.node.specs.Refusals.{refuse, bad, start, outcome}
 use Rattle.node.specs.Calls.{reception_over, transmission_over, Call, discovery, join, send, poll, receive, timeout, scan, association, transmission, reception, elapsed, take_leave, take_status, made, answer, scanned, refresh}
 use Rattle.node.specs.declared.Answer.{Answer}
-use Rattle.node.specs.declared.ReceptionOutcome.{ReceptionOutcome}
-use Rattle.node.specs.declared.ScanOutcome.{ScanOutcome}
 use Rattle.node.specs.declared.State.{State}
 use Rattle.lent_tick.specs.LentTick.{with_timer, lent_turned_down, with_record, lent_tick}
 use Rattle.lent_tick.specs.declared.LentTicked.{LentTicked}
@@ -35,6 +32,12 @@ use Rattle.refusals.proofs.Decisions.{NotLeaving, NotTaken}
 use Rattle.leave_indications.specs.Statement.{indication, indicated, FromParent, Brought, Leaves, Requested, announcing, Announced, Indicates, LeaveIndications}
 use Rattle.leave_indications.proofs.Parent.{by_parent, from_told, accepts-told}
 use Rattle.leave_indications.proofs.Calls.{handling, left-slot, request-slot, accepted-phase, announced-made, announced-slot, tick-slot, Slot, kept, says, takes, Next, stays, elsewhere, announced, HandsOut, not_taken, taking, answer-got}
+use Rattle.nib.specs.declared.IeeeAddress.{IeeeAddress}
+use Rattle.management.specs.declared.NlmeLeaveIndication.{NlmeLeaveIndication}
+use Rattle.discovery.specs.declared.mlme.MacError.{MacError}
+use Rattle.discovery.specs.declared.mlme.PanDescriptorList.{PanDescriptorList}
+use Rattle.operation.specs.declared.Refusal.{Refusal}
+use Rattle.operation.specs.declared.Refusal.TheVariants.{OperationUnderWay, NotAwaited, BadState}
 
 told-true : {C : Type 0} {b : Bool} → Tells C b → C → b ≡ true
 told-true (holds h) c = refl
@@ -45,17 +48,17 @@ told-false (holds h) n = absurd (n h)
 told-false (fails h) n = refl
 
 -- the device and the rejoin bit of an indication; of an empty slot any
-abbrev device_of : LeaveIndicationSlot → LeavingDevice
-device_of LeaveIndicationSlot.NoLeaveIndication = LeavingDevice.ThisDevice
-device_of (LeaveIndicationSlot.HasLeaveIndication i) = i.device
+abbrev device_of : Option NlmeLeaveIndication → LeavingDevice
+device_of None = LeavingDevice.ThisDevice
+device_of (Some i) = i.device
 
-abbrev rejoin_of : LeaveIndicationSlot → Bool
-rejoin_of LeaveIndicationSlot.NoLeaveIndication = false
-rejoin_of (LeaveIndicationSlot.HasLeaveIndication i) = i.rejoin
+abbrev rejoin_of : Option NlmeLeaveIndication → Bool
+rejoin_of None = false
+rejoin_of (Some i) = i.rejoin
 
-abbrev is_empty : LeaveIndicationSlot → Bool
-is_empty LeaveIndicationSlot.NoLeaveIndication = true
-is_empty (LeaveIndicationSlot.HasLeaveIndication i) = false
+abbrev is_empty : Option NlmeLeaveIndication → Bool
+is_empty None = true
+is_empty (Some i) = false
 
 abbrev is_this : LeavingDevice → Bool
 is_this LeavingDevice.ThisDevice = true
@@ -65,7 +68,7 @@ is_this (LeavingDevice.NeighborByShort a) = false
 -- a state that 5 lets pass
 answer-good : (s : State) (c : Call) → (Bad s → ⊥) → answer s c ≡ made s c
 unfolding answer
-answer-good s c good = sym (pick-false (bad s) (refuse 5 s) (made s c) (told-false (bad-told s) good))
+answer-good s c good = sym (pick-false (bad s) (refuse BadState s) (made s c) (told-false (bad-told s) good))
 
 -- A LEAVE COMMAND THAT IS BROUGHT
 
@@ -81,7 +84,7 @@ module _ {s : State} {c : Call} {u : Purpose} {f : Source} {d : ShortAddress} {r
   brought-answer =
       ap (answer s) b.call
       ∙ answer-good s _ b.awaited.0
-      ∙ ap (λ (p : Phase). outcome (reception_for p) (reception_over (ReceptionOutcome.Received (ReceivedFrame.LeaveCommand f d o))) s) b.awaited.1
+      ∙ ap (λ (p : Phase). outcome (reception_for p) (reception_over (Ok (Some (ReceivedFrame.LeaveCommand f d o)))) s) b.awaited.1
 
 module _ {s : State} {c : Call} {f : Source} {rejoin : Bool} (l : Leaves s c f rejoin) where
   left-answer : indication (answer s c).state ≡ indicated (cond (by_parent s f l.1 (o l.2)) LeavingDevice.ThisDevice (neighbor_leaving f.ieee f.address)) rejoin
@@ -110,7 +113,7 @@ newest s c (LeavingDevice.NeighborByIeee x) rejoin (f, l, n, e) =
 newest s c (LeavingDevice.NeighborByShort a) rejoin (f, l, n, e, q) =
     neighbor-answer l n ∙ ap (λ y. indicated (neighbor_leaving y f.address) rejoin) e ∙ ap (λ y. indicated (LeavingDevice.NeighborByShort y) rejoin) q
 
-only : (s : State) (c : Call) (device : LeavingDevice) (rejoin : Bool) → indication s ≡ LeaveIndicationSlot.NoLeaveIndication
+only : (s : State) (c : Call) (device : LeavingDevice) (rejoin : Bool) → indication s ≡ None
     → indication (answer s c).state ≡ indicated device rejoin → Indicates s c device rejoin
 only s c device rejoin empty e = go (answer-got s c).0
   where
@@ -130,7 +133,7 @@ unchanged s c n m = go (answer-got s c).0
     go (says x r i k) = absurd (m x r i)
 
 taken : (s : State) → (Bad s → ⊥)
-    → ((answer s take_leave).step ≡ Step.LeaveTaken (indication s)) × (indication (answer s take_leave).state ≡ LeaveIndicationSlot.NoLeaveIndication)
+    → ((answer s take_leave).step ≡ Step.LeaveTaken (indication s)) × (indication (answer s take_leave).state ≡ None)
 unfolding finish
 taken s good =
     (ap (λ (a : Answer). a.step) (answer-good s take_leave good), ap (λ (a : Answer). indication a.state) (answer-good s take_leave good))
@@ -139,9 +142,9 @@ never-ours : (s : State) (c : Call) (f : Source) (rejoin other : Bool) → Leave
     → indication (answer s c).state ≡ indicated LeavingDevice.ThisDevice other → ⊥
 never-ours s c f rejoin other l n e = false≢true (sym (go f.ieee) ∙ ap (λ x. is_this (device_of x)) (sym (neighbor-answer l n) ∙ e))
   where
-    go : (x : OptionalIeee) → is_this (neighbor_leaving x f.address) ≡ false
-    go OptionalIeee.NoIeee = refl
-    go (OptionalIeee.Ieee x) = refl
+    go : (x : Option IeeeAddress) → is_this (neighbor_leaving x f.address) ≡ false
+    go None = refl
+    go (Some x) = refl
 
 nothing_yet : (s : State) (c : Call) (u : Purpose) (f : Source) (d : ShortAddress) (rejoin : Bool) → Brought s c u f d true rejoin
     → indication (answer s c).state ≡ indication s
@@ -178,17 +181,17 @@ announced-over s c rejoin (u, sent, w, e) =
 
 -- any other call leaves it awaited
 module _ (s : State) (u : Purpose) (rejoin : Bool) (e : phase s ≡ announcing u rejoin) where
-  refused-phase : (k : ℕ) → phase (refuse k s).state ≡ announcing u rejoin
+  refused-phase : (k : Refusal) → phase (refuse k s).state ≡ announcing u rejoin
   unfolding refuse
   refused-phase k = e
 
   started-phase : (a : Answer) → phase (start a s).state ≡ announcing u rejoin
-  started-phase a = ap (λ (x : Answer). phase x.state) (sym (pick-false (is_idle (phase s)) a (refuse 1 s) (ap is_idle e))) ∙ refused-phase 1
+  started-phase a = ap (λ (x : Answer). phase x.state) (sym (pick-false (is_idle (phase s)) a (refuse OperationUnderWay s) (ap is_idle e))) ∙ refused-phase OperationUnderWay
 
   -- an outcome of another kind is not awaited
-  other-phase : {A : Type 0} (kind : Phase → For A) (g : A → State → Answer) → kind (announcing u rejoin) ≡ unawaited → phase (outcome (kind (phase s)) g s).state ≡ announcing u rejoin
+  other-phase : {A : Type 0} (kind : Phase → Option A) (g : A → State → Answer) → kind (announcing u rejoin) ≡ None → phase (outcome (kind (phase s)) g s).state ≡ announcing u rejoin
   unfolding outcome
-  other-phase kind g q = ap (λ w. phase (outcome w g s).state) (ap kind e ∙ q) ∙ refused-phase 2
+  other-phase kind g q = ap (λ w. phase (outcome w g s).state) (ap kind e ∙ q) ∙ refused-phase NotAwaited
 
   made-phase : (c : Call) → ((sent : Bool) → c ≡ transmission sent → ⊥) → phase (made s c).state ≡ announcing u rejoin
   unfolding finish
@@ -210,8 +213,8 @@ module _ (s : State) (u : Purpose) (rejoin : Bool) (e : phase s ≡ announcing u
   unfolding answer
   waiting c n = go (bad-told s)
     where
-      go : {b : Bool} → Tells (Bad s) b → phase (cond b (refuse 5 s) (made s c)).state ≡ announcing u rejoin
-      go (holds h) = refused-phase 5
+      go : {b : Bool} → Tells (Bad s) b → phase (cond b (refuse BadState s) (made s c)).state ≡ announcing u rejoin
+      go (holds h) = refused-phase BadState
       go (fails h) = made-phase c (λ sent q. n (u, sent, (h, e), q))
 
 announces : (s : State) (c : Call) (u : Purpose) (rejoin : Bool)
@@ -228,7 +231,7 @@ announces s c u rejoin = (λ e. to e (answer-got s c).1, ⊎_elim from (λ w. wa
     from : Requested s c u rejoin → phase (answer s c).state ≡ announcing u rejoin
     from (f, d, b, a) = ap (λ x. phase x.state) (brought-answer b) ∙ accepted-phase u s f d (o b) refl (told-true (accepts-told s f d (o b)) a)
 
-only-taken : (s : State) (c : Call) (x : LeaveIndicationSlot) → (answer s c).step ≡ Step.LeaveTaken x → c ≡ take_leave
+only-taken : (s : State) (c : Call) (x : Option NlmeLeaveIndication) → (answer s c).step ≡ Step.LeaveTaken x → c ≡ take_leave
 only-taken s c x e = go (answer-got s c).2
   where
     go : HandsOut c (answer s c) → c ≡ take_leave
@@ -241,14 +244,14 @@ module _ (t : ParentTimer) (ms : ℕ) (s : State) where
   unfolding lent_tick answer refuse
   lent_by P h k m =
       by_cases (λ (x : LentTicked). P x.answer.state) (bad s) {x = lent_turned_down t s} {y = with_record (answer (with_timer t s) (elapsed ms))} (λ _. h)
-      (by_cases (λ (x : Answer). P x.state) (bad (with_timer t s)) {x = refuse 5 (with_timer t s)} {y = made (with_timer t s) (elapsed ms)} (λ _. k) m)
+      (by_cases (λ (x : Answer). P x.state) (bad (with_timer t s)) {x = refuse BadState (with_timer t s)} {y = made (with_timer t s) (elapsed ms)} (λ _. k) m)
 
   lent : (indication (lent_tick t ms s).answer.state ≡ indication s) × (phase (lent_tick t ms s).answer.state ≡ phase s)
   unfolding finish
   lent =
       (lent_by (λ x. indication x ≡ indication s) refl refl (tick-slot (with_timer t s) ms), lent_by (λ x. phase x ≡ phase s) refl refl refl)
 
-confirmed : (s : State) (o : ScanOutcome) → (scanned o s).answer ≡ answer s (scan o)
+confirmed : (s : State) (o : Result PanDescriptorList MacError) → (scanned o s).answer ≡ answer s (scan o)
 unfolding scanned
 confirmed s o = refl
 
@@ -257,8 +260,8 @@ refresh-kept : (s : State) → (indication (refresh s).state ≡ indication s) �
 unfolding refresh refuse finish potential_cleared moved refreshed
 refresh-kept s = go (bad s)
   where
-    go : (b : Bool) → (indication (cond b (refuse 5 s) (deciding s (timeout_refreshed s.control))).state ≡ indication s)
-        × (phase (cond b (refuse 5 s) (deciding s (timeout_refreshed s.control))).state ≡ phase s)
+    go : (b : Bool) → (indication (cond b (refuse BadState s) (deciding s (timeout_refreshed s.control))).state ≡ indication s)
+        × (phase (cond b (refuse BadState s) (deciding s (timeout_refreshed s.control))).state ≡ phase s)
     go true = (refl, refl)
     go false = (refl, refl)
 

@@ -1,4 +1,5 @@
 -- The tests of the definitions tell whether a leave command is the parent's, and whether its request is accepted (specs/Statement.antt). Assumes nothing.
+use Rattle.std.specs.Prelude.{Option, Some, None}
 use Prim.Native.Nat.{ℕ}
 use mathlib.Core.Path.{◌≡◌, refl, sym, ap, subst⁻¹, ◌∙◌}
 use mathlib.Core.Bool.{Bool, true, false, cond, not, ◌&&◌, false≢true}
@@ -10,10 +11,8 @@ use Rattle.lists.proofs.Conditions.{by_cases}
 use Rattle.nib.specs.Identifiers.{bit}
 use Rattle.nib.specs.Neighbors.{entries_of}
 use Rattle.nib.specs.declared.IeeeAddress.{IeeeAddress}
-use Rattle.nib.specs.declared.Neighbor.{Neighbor}
 use Rattle.nib.specs.declared.NeighborTable.{NeighborTable}
 use Rattle.nib.specs.declared.NwkNeighbor.{NwkNeighbor}
-use Rattle.nib.specs.declared.OptionalIeee.{OptionalIeee}
 use Rattle.nib.specs.declared.ShortAddress.{ShortAddress}
 use Rattle.nib.specs.NeighborTable.{has_address, is_parent, parent_of, seen_in, with_ieee, on_entries, learnt}
 use Rattle.nib.proofs.Entries.{on_same, on-kept, entries-on, learnt-long}
@@ -55,10 +54,10 @@ bool-told false = fails false≢true
 parent-told : (a : ShortAddress) (es : List NwkNeighbor) → Tells (ParentHas a es) (is_from_parent (parent_of es) a)
 unfolding parent_of
 parent-told a [] = fails (λ h. h)
-parent-told a (e ∷ es) = subst⁻¹ (λ (n : Neighbor). Tells (ParentHas a (e ∷ es)) (is_from_parent n a)) (parent-cons e es) (go (equal-told e.relationship 0) (parent-told a es))
+parent-told a (e ∷ es) = subst⁻¹ (λ (n : Option NwkNeighbor). Tells (ParentHas a (e ∷ es)) (is_from_parent n a)) (parent-cons e es) (go (equal-told e.relationship 0) (parent-told a es))
   where
     go : {b : Bool} → Tells (e.relationship ≡ 0) b → Tells (ParentHas a es) (is_from_parent (parent_of es) a)
-        → Tells (ParentHas a (e ∷ es)) (is_from_parent (cond b (Neighbor.Entry e) (parent_of es)) a)
+        → Tells (ParentHas a (e ∷ es)) (is_from_parent (cond b (Some e) (parent_of es)) a)
     go (holds h) t = same-told (λ k. inl (h, k)) (⊎_elim (λ x. x.1) (λ x. absurd (x.0 h))) (equal-told e.network_address.0 a.0)
     go (fails h) t = same-told (λ k. inr (h, k)) (⊎_elim (λ x. absurd (h x.0)) (λ x. x.1)) t
 
@@ -67,9 +66,9 @@ seen-parent : (a : ShortAddress) (es : List NwkNeighbor) → is_from_parent (par
 unfolding parent_in
 seen-parent a es = go (parent_of es)
   where
-    go : (n : Neighbor) → is_from_parent (seen_in es n) a ≡ is_from_parent n a
-    go Neighbor.Absent = refl
-    go (Neighbor.Entry e) = refl
+    go : (n : Option NwkNeighbor) → is_from_parent (seen_in es n) a ≡ is_from_parent n a
+    go None = refl
+    go (Some e) = refl
 
 learnt-parent : (a : ShortAddress) (b : ℕ) (x : IeeeAddress) (es : List NwkNeighbor) → is_from_parent (parent_of (learnt b x es)) a ≡ is_from_parent (parent_of es) a
 unfolding learnt
@@ -79,21 +78,21 @@ learnt-parent a b x (e ∷ es) =
     (λ _. rw (parent-cons (with_ieee x e) es, parent-cons e es) (first (is_parent e)))
     (rw (parent-cons e (learnt b x es), parent-cons e es) (later (is_parent e) (learnt-parent a b x es)))
   where
-    first : (t : Bool) → is_from_parent (cond t (Neighbor.Entry (with_ieee x e)) (parent_of es)) a ≡ is_from_parent (cond t (Neighbor.Entry e) (parent_of es)) a
+    first : (t : Bool) → is_from_parent (cond t (Some (with_ieee x e)) (parent_of es)) a ≡ is_from_parent (cond t (Some e) (parent_of es)) a
     first true = refl
     first false = refl
 
-    later : (t : Bool) → is_from_parent (parent_of (learnt b x es)) a ≡ is_from_parent (parent_of es) a → is_from_parent (cond t (Neighbor.Entry e) (parent_of (learnt b x es))) a ≡ is_from_parent (cond t (Neighbor.Entry e) (parent_of es)) a
+    later : (t : Bool) → is_from_parent (parent_of (learnt b x es)) a ≡ is_from_parent (parent_of es) a → is_from_parent (cond t (Some e) (parent_of (learnt b x es))) a ≡ is_from_parent (cond t (Some e) (parent_of es)) a
     later true h = refl
     later false h = h
 
-taught-parent : (x : OptionalIeee) (b a : ShortAddress) (t : NeighborTable)
+taught-parent : (x : Option IeeeAddress) (b a : ShortAddress) (t : NeighborTable)
     → is_from_parent (parent_in (entries_of (on_entries (taught_by x b) t))) a ≡ is_from_parent (parent_of (entries_of t)) a
 unfolding taught_by
-taught-parent OptionalIeee.NoIeee b a t =
-    ap (λ (u : NeighborTable). is_from_parent (parent_in (entries_of u)) a) (on-kept (taught_by OptionalIeee.NoIeee b) t refl) ∙ seen-parent a (entries_of t)
-taught-parent (OptionalIeee.Ieee x) b a t =
-    ap (λ (es : List NwkNeighbor). is_from_parent (parent_in es) a) (entries-on (taught_by (OptionalIeee.Ieee x) b) t (learnt-long b.0 x (entries_of t)))
+taught-parent None b a t =
+    ap (λ (u : NeighborTable). is_from_parent (parent_in (entries_of u)) a) (on-kept (taught_by None b) t refl) ∙ seen-parent a (entries_of t)
+taught-parent (Some x) b a t =
+    ap (λ (es : List NwkNeighbor). is_from_parent (parent_in es) a) (entries-on (taught_by (Some x) b) t (learnt-long b.0 x (entries_of t)))
     ∙ seen-parent a (learnt b.0 x (entries_of t))
     ∙ learnt-parent a b.0 x (entries_of t)
 

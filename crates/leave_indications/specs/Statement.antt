@@ -3,13 +3,11 @@
 -- exactly where a leave without the request bit from another than the parent has no IEEE address."
 -- Who the parent is and which requests are accepted stand here as the source has them (`parent_short_address`, `accepts_leave_request`).
 -- They rest on no definition of what a received frame does.
-use Rattle.std.specs.Prelude.{ℕ, ◌<◌, ◌≡◌, Bool, true, false, List, [], ◌∷◌, ◌⊎◌, ◌↔◌, take}
+use Rattle.std.specs.Prelude.{Result, Ok, Option, Some, None, ℕ, ◌<◌, ◌≡◌, Bool, true, false, List, [], ◌∷◌, ◌⊎◌, ◌↔◌, take}
 use Rattle.nib.specs.Identifiers.{bit}
 use Rattle.nib.specs.declared.NwkNeighbor.{NwkNeighbor}
-use Rattle.nib.specs.declared.OptionalIeee.{OptionalIeee}
 use Rattle.nib.specs.declared.ShortAddress.{ShortAddress}
 use Rattle.management.specs.declared.LeavingDevice.{LeavingDevice}
-use Rattle.management.specs.declared.LeaveIndicationSlot.{LeaveIndicationSlot}
 use Rattle.management.specs.declared.frame.Source.{Source}
 use Rattle.management.specs.declared.frame.ReceivedFrame.{ReceivedFrame}
 use Rattle.supervision.specs.declared.parent_timer.ParentTimer.{ParentTimer}
@@ -19,17 +17,18 @@ use Rattle.operation.specs.declared.Phase.{Phase}
 use Rattle.operation.specs.declared.Step.{Step}
 use Rattle.node.specs.Calls.{Call, scan, transmission, reception, take_leave, answer, scanned, refresh}
 use Rattle.node.specs.declared.State.{State}
-use Rattle.node.specs.declared.ReceptionOutcome.{ReceptionOutcome}
-use Rattle.node.specs.declared.ScanOutcome.{ScanOutcome}
 use Rattle.lent_tick.specs.LentTick.{lent_tick}
 use Rattle.refusals.specs.Statement.{phase, Bad}
+use Rattle.management.specs.declared.NlmeLeaveIndication.{NlmeLeaveIndication}
+use Rattle.discovery.specs.declared.mlme.MacError.{MacError}
+use Rattle.discovery.specs.declared.mlme.PanDescriptorList.{PanDescriptorList}
 
 -- what stands in a state's slot, and the indication of a device's leave with its rejoin bit
-abbrev pub indication : State → LeaveIndicationSlot
+abbrev pub indication : State → Option NlmeLeaveIndication
 indication s = s.control.nlme.signals.leave_indication
 
-abbrev pub indicated : LeavingDevice → Bool → LeaveIndicationSlot
-indicated device rejoin = LeaveIndicationSlot.HasLeaveIndication (record { device = device; rejoin = rejoin })
+abbrev pub indicated : LeavingDevice → Bool → Option NlmeLeaveIndication
+indicated device rejoin = Some (record { device = device; rejoin = rejoin })
 
 -- the parent is the first entry with relationship PARENT, 0. A frame is the parent's by its sender's short address; where there is no parent, no frame is
 abbrev pub ParentHas : ShortAddress → List NwkNeighbor → Type 0
@@ -47,7 +46,7 @@ Awaits s p = (Bad s → ⊥) × (phase s ≡ p)
 pub record Brought (s : State) (c : Call) (u : Purpose) (f : Source) (d : ShortAddress) (request rejoin : Bool) : Type 0 where
   pub awaited : Awaits s (Phase.Reception u)
   pub children : Bool
-  pub call : c ≡ reception (ReceptionOutcome.Received (ReceivedFrame.LeaveCommand f d (record { request = request; rejoin = rejoin; remove_children = children })))
+  pub call : c ≡ reception (Ok (Some (ReceivedFrame.LeaveCommand f d (record { request = request; rejoin = rejoin; remove_children = children }))))
 
 -- a leave without the request bit
 abbrev pub Leaves : State → Call → Source → Bool → Type 0
@@ -74,26 +73,26 @@ Announced s c rejoin = (u : Purpose) × (sent : Bool) × Awaits s (announcing u 
 -- what a call indicates
 abbrev pub Indicates : State → Call → LeavingDevice → Bool → Type 0
 Indicates s c LeavingDevice.ThisDevice rejoin = ((f : Source) × Leaves s c f rejoin × FromParent f s) ⊎ Announced s c rejoin
-Indicates s c (LeavingDevice.NeighborByIeee x) rejoin = (f : Source) × Leaves s c f rejoin × (FromParent f s → ⊥) × (f.ieee ≡ OptionalIeee.Ieee x)
+Indicates s c (LeavingDevice.NeighborByIeee x) rejoin = (f : Source) × Leaves s c f rejoin × (FromParent f s → ⊥) × (f.ieee ≡ Some x)
 Indicates s c (LeavingDevice.NeighborByShort a) rejoin =
-    (f : Source) × Leaves s c f rejoin × (FromParent f s → ⊥) × (f.ieee ≡ OptionalIeee.NoIeee) × (f.address ≡ a)
+    (f : Source) × Leaves s c f rejoin × (FromParent f s → ⊥) × (f.ieee ≡ None) × (f.address ≡ a)
 
 pub record LeaveIndications : Type 0 where
   -- an empty slot is filled with an indication exactly if the call indicates it
-  pub exactly : (s : State) (c : Call) (device : LeavingDevice) (rejoin : Bool) → indication s ≡ LeaveIndicationSlot.NoLeaveIndication
+  pub exactly : (s : State) (c : Call) (device : LeavingDevice) (rejoin : Bool) → indication s ≡ None
       → (indication (answer s c).state ≡ indicated device rejoin) ↔ Indicates s c device rejoin
   -- "Each indication slot keeps the newest value until taken."
   pub newest : (s : State) (c : Call) (device : LeavingDevice) (rejoin : Bool) → Indicates s c device rejoin → indication (answer s c).state ≡ indicated device rejoin
   pub kept : (s : State) (c : Call) → (c ≡ take_leave → Bad s) → ((device : LeavingDevice) (rejoin : Bool) → Indicates s c device rejoin → ⊥)
       → indication (answer s c).state ≡ indication s
   pub taken : (s : State) → (Bad s → ⊥)
-      → ((answer s take_leave).step ≡ Step.LeaveTaken (indication s)) × (indication (answer s take_leave).state ≡ LeaveIndicationSlot.NoLeaveIndication)
+      → ((answer s take_leave).step ≡ Step.LeaveTaken (indication s)) × (indication (answer s take_leave).state ≡ None)
   -- nothing else hands one out
-  pub only-taken : (s : State) (c : Call) (x : LeaveIndicationSlot) → (answer s c).step ≡ Step.LeaveTaken x → c ≡ take_leave
+  pub only-taken : (s : State) (c : Call) (x : Option NlmeLeaveIndication) → (answer s c).step ≡ Step.LeaveTaken x → c ≡ take_leave
   -- a tick over a lent record leaves the slot, and what is awaited. The call that hands out a scan's confirm answers as the scan's outcome does
   pub lent : (t : ParentTimer) (ms : ℕ) (s : State)
       → (indication (lent_tick t ms s).answer.state ≡ indication s) × (phase (lent_tick t ms s).answer.state ≡ phase s)
-  pub confirmed : (s : State) (o : ScanOutcome) → (scanned o s).answer ≡ answer s (scan o)
+  pub confirmed : (s : State) (o : Result PanDescriptorList MacError) → (scanned o s).answer ≡ answer s (scan o)
   -- the restart of the timer, which is no case of `Call`, leaves both too
   pub refreshed : (s : State) → (indication (refresh s).state ≡ indication s) × (phase (refresh s).state ≡ phase s)
   -- no leave without the request bit from another than the parent is indicated as this device, whatever stood in the slot

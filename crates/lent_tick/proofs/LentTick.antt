@@ -16,13 +16,15 @@ use Rattle.node.specs.declared.Answer.{Answer}
 use Rattle.lent_tick.specs.declared.LentTicked.{LentTicked}
 use Rattle.lent_tick.specs.OwnRecord.{OwnRecord}
 use Rattle.lent_tick.specs.LentTick.{timer_of, with_timer, with_state, lent_turned_down, with_record, lent_tick}
+use Rattle.operation.specs.declared.Refusal.{Refusal}
+use Rattle.operation.specs.declared.Refusal.TheVariants.{BadState}
 
 -- the tag of a tick's answer: 0 for a refusal, 9 for one that says whether the timer expired
 tag-of : (ms : ℕ) (s : State) → tag_of the_type (answer s (elapsed ms)).step ≡ cond (bad s) 0 9
 unfolding answer finish refuse
 tag-of ms s = go (bad s) _ refl
   where
-    go : (b : Bool) (a : Answer) → tag_of the_type a.step ≡ 9 → tag_of the_type (cond b (refuse 5 s) a).step ≡ cond b 0 9
+    go : (b : Bool) (a : Answer) → tag_of the_type a.step ≡ 9 → tag_of the_type (cond b (refuse BadState s) a).step ≡ cond b 0 9
     go true a h = refl
     go false a h = h
 
@@ -33,11 +35,11 @@ module _ (t : ParentTimer) (ms : ℕ) (s : State) (a : Answer) (e : a ≡ answer
   tag = ap (λ (x : Answer). tag_of the_type x.step) e ∙ tag-of ms (with_timer t s)
 
   -- the refusal of the state with the lent record is, with the state as handed in, the one of that state
-  refused-alike : bad s ≡ true → with_state s a ≡ refuse 5 s
+  refused-alike : bad s ≡ true → with_state s a ≡ refuse BadState s
   unfolding answer bad refuse
-  refused-alike q = ap (with_state s) (e ∙ sym (pick_true (bad s) (refuse 5 (with_timer t s)) _ q))
+  refused-alike q = ap (with_state s) (e ∙ sym (pick_true (bad s) (refuse BadState (with_timer t s)) _ q))
 
-  pub if-refused : (n : ℕ) → a.step ≡ Refused n → record { timer = t; answer = with_state s a } ≡ lent_tick t ms s
+  pub if-refused : (n : Refusal) → a.step ≡ Refused n → record { timer = t; answer = with_state s a } ≡ lent_tick t ms s
   unfolding lent_tick
   if-refused n h =
       let q = go (bad s) (sym tag ∙ ap (tag_of the_type) h) in
@@ -47,12 +49,12 @@ module _ (t : ParentTimer) (ms : ℕ) (s : State) (a : Answer) (e : a ≡ answer
       go true q = refl
       go false q = absurd (omega arith)
 
-  pub if-not-refused : ((n : ℕ) → a.step ≡ Refused n → ⊥) → with_record a ≡ lent_tick t ms s
+  pub if-not-refused : ((n : Refusal) → a.step ≡ Refused n → ⊥) → with_record a ≡ lent_tick t ms s
   unfolding lent_tick refuse
   if-not-refused h = ap with_record e ∙ pick-false (bad s) _ _ (go (bad s) refl)
     where
       go : (b : Bool) → bad s ≡ b → b ≡ false
-      go true q = absurd (h 5 (ap (λ (x : Answer). x.step) (refused-alike q)))
+      go true q = absurd (h BadState (ap (λ (x : Answer). x.step) (refused-alike q)))
       go false q = refl
 
 -- lent the state's own record, the answer is the state's tick, and the record left is that of the state left
@@ -60,7 +62,7 @@ own : (ms : ℕ) (s : State) → lent_tick (timer_of s) ms s ≡ with_record (an
 unfolding lent_tick answer refuse
 own ms s = go (bad s) _
   where
-    go : (b : Bool) (a : Answer) → cond b (lent_turned_down (timer_of s) s) (with_record (cond b (refuse 5 s) a)) ≡ with_record (cond b (refuse 5 s) a)
+    go : (b : Bool) (a : Answer) → cond b (lent_turned_down (timer_of s) s) (with_record (cond b (refuse BadState s) a)) ≡ with_record (cond b (refuse BadState s) a)
     go true a = refl
     go false a = refl
 

@@ -7,6 +7,7 @@ use Rattle.node.specs.Calls.{with_node, elapsed, answer}
 use Rattle.node.specs.declared.State.{State}
 use Rattle.node.specs.declared.Answer.{Answer}
 use Rattle.lent_tick.specs.declared.LentTicked.{LentTicked}
+use Rattle.operation.specs.declared.Refusal.TheVariants.{BadState}
 
 -- the state's own record, and the state with another in its place
 abbrev pub timer_of : State → ParentTimer
@@ -21,7 +22,7 @@ with_state s a = record { state = s; reset = a.reset; note = a.note; step = a.st
 
 -- turned down by 5: state and record stay as handed in
 abbrev pub lent_turned_down : ParentTimer → State → LentTicked
-lent_turned_down t s = record { timer = t; answer = refuse 5 s }
+lent_turned_down t s = record { timer = t; answer = refuse BadState s }
 
 -- an answer, and its state's record in the lent one
 abbrev pub with_record : Answer → LentTicked

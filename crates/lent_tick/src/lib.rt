@@ -15,34 +15,31 @@ pub struct LentTicked {
     pub answer: Answer,
 }
 
-fn with_timer(state: State, timer: ParentTimer) -> State
+fn with_timer(mut state: State, timer: ParentTimer) -> State
     ensures { result ≡ with_timer timer state }
 {
-    let mut nlme = state.control.nlme;
-    nlme.parent_timer = timer;
-    let mut control = state.control;
-    control.nlme = nlme;
-    let mut out = state;
-    out.control = control;
-    out
+    state.control.nlme.parent_timer = timer;
+    state
 }
 
 // A tick that was turned down: the state as handed in, and the record as it was lent.
 fn turned_down(timer: ParentTimer, state: State, refused: Answer) -> LentTicked
     ensures { result ≡ record { timer = timer; answer = with_state state refused } }
 {
-    let mut answer = refused;
-    answer.state = state;
-    LentTicked { timer, answer }
+    LentTicked {
+        timer,
+        answer: Answer { state, ..refused },
+    }
 }
 
 // A tick that was made: the record of the state that is answered goes into the lent one.
 fn with_record(answer: Answer) -> LentTicked
     ensures { result ≡ with_record answer }
 {
-    let state = answer.state;
-    let timer = state.control.nlme.parent_timer;
-    LentTicked { timer, answer }
+    LentTicked {
+        timer: answer.state.control.nlme.parent_timer,
+        answer,
+    }
 }
 
 // A tick of the state with this record in place of its own.
@@ -51,14 +48,9 @@ pub fn tick_with(timer: ParentTimer, state: State, elapsed_ms: u32) -> LentTicke
 {
     let lent = with_timer(state, timer);
     let answer = lent.tick_parent_timeout(elapsed_ms);
-    let step = answer.step;
-    match step {
-        Step::Refused(_) => {
-            return turned_down(timer, state, answer);
-        }
-        _ => {
-            return with_record(answer);
-        }
+    match answer.step {
+        Step::Refused(_) => turned_down(timer, state, answer),
+        _ => with_record(answer),
     }
 }
 
@@ -69,8 +61,7 @@ pub fn tick_with(timer: ParentTimer, state: State, elapsed_ms: u32) -> LentTicke
 pub fn tick_lent(timer: &mut ParentTimer, state: State, elapsed_ms: u32) -> Answer
     ensures { (result ≡ (lent_tick timer.old elapsed_ms state).answer) × (timer.new ≡ (lent_tick timer.old elapsed_ms state).timer) }
 {
-    let before = *timer;
-    let after = tick_with(before, state, elapsed_ms);
+    let after = tick_with(*timer, state, elapsed_ms);
     *timer = after.timer;
     after.answer
 }

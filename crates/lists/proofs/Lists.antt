@@ -5,8 +5,8 @@ use mathlib.Core.Bool.{Bool, true, false, cond}
 use mathlib.Core.List.{List, [], ◌∷◌, ◌++◌, map, append_assoc, foldl}
 use native.Mathlib.Numerals.{add-one}
 use native.Mathlib.Omega.{arith}
-use lib.ListN.{length, take, drop, get_or, set, length-map, length-append, length-take, length-drop, take-append-drop, drop_of_length-le}
-use lib.Seq.{take-suc, take_all, drop-cons, take_at, get_or_at, set_at, get_or-append-add, get_or-drop, length-take-le, append_snoc, take-append-le, drop-append-le, drop-append-add, drop-drop}
+use lib.ListN.{length, take, drop, get_or, set, length-map, length-append, length-take, length-drop, drop_of_length-le}
+use lib.Seq.{take-suc, take_all, drop-cons, take_at, drop_at, set_at, append_snoc, take-append-le, drop-append-le}
 use lib.Dec.{ltb}
 use borrow.Author.Tests.{lt-ltb, le-ltb}
 use native.Mathlib.Nat.{le_of_suc-le-suc, not-suc-le-zero}
@@ -76,45 +76,44 @@ module _ {A : Type 0} where
       go true p e = refl
       go false p e = ap (λ (z : List A). y ∷ z) e
 
-  -- moving up by one, from place p: the list after the moves below k, with what is carried
-  module _ (L : List A) (p : ℕ) (x d : A) (hp : p ≤ length L) where
-    abbrev pub moved : List A
-    moved = insert_at p x L
+  pub inserted-long : (l : List A) (p : ℕ) (x : A) → p ≤ length l → length (insert_at p x l) ≡ suc (length l)
+  inserted-long l p x hp = simp (length-append, length-take, length-drop) (omega arith)
 
-    pub moved-long : length moved ≡ suc (length L)
-    moved-long = simp (length-append, length-take, length-drop) (omega arith)
+  -- x behind a list and then turned to place p, over the front of a base. s is what stands from p on, with x at its end
+  pub turned : (base l : List A) (p m : ℕ) (x : A) → p ≤ length l → m ≡ length l → (a s : List A) → a ≡ over base (l ++ (x ∷ [])) → s ≡ take (m + 1 - p) (drop p a) → take p a ++ ((drop (length s - 1) s ++ take (length s - 1) s) ++ drop (m + 1 - p) (drop p a)) ≡ over base (insert_at p x l)
+  turned base l p m x hp em a s ea es =
+      rw (take-is, after-is, s-is, drop_at t (x ∷ []) (length (t ++ (x ∷ [])) - 1) k, take_at t (x ∷ []) (length (t ++ (x ∷ [])) - 1) k, long)
+      (sym (append_assoc (take p l) (x ∷ t) r))
+    where
+      r : List A
+      r = drop (length (l ++ (x ∷ []))) base
 
-    pub move_start : take p moved ++ drop p L ≡ L
-    move_start = rw (take_at (take p L) (x ∷ drop p L) p (length-take-le p L hp)) (take-append-drop p L)
+      t : List A
+      t = drop p l
 
-    pub carry-start : get_or moved p d ≡ x
-    carry-start = get_or_at (take p L) x (drop p L) d p (length-take-le p L hp)
+      short : p ≤ length (l ++ (x ∷ []))
+      short = omega (arith, length-append l (x ∷ []))
 
-    pub move_read : (k : ℕ) → k < length L → get_or (take k moved ++ drop k L) k d ≡ get_or L k d
-    move_read k h =
-        rw (drop-cons L k d h)
-        (get_or_at (take k moved) (get_or L k d) (drop (suc k) L) d k (length-take-le k moved (omega (arith, moved-long))))
+      take-is : take p a ≡ take p l
+      take-is = rw ea (take-append-le p (l ++ (x ∷ [])) r short ∙ take-append-le p l (x ∷ []) hp)
 
-    pub move_step : (k : ℕ) → k < length L → set (take k moved ++ drop k L) k (get_or moved k d) ≡ take (k + 1) moved ++ drop (k + 1) L
-    move_step k h =
-        rw (add-one, drop-cons L k d h)
-        (set_at (take k moved) (get_or L k d) (drop (suc k) L) (get_or moved k d) k (length-take-le k moved (omega (arith, moved-long)))
-        ∙ sym (rw (take-suc moved k d (omega (arith, moved-long))) (append_snoc (take k moved) (get_or moved k d) (drop (suc k) L))))
+      drop-is : drop p a ≡ (t ++ (x ∷ [])) ++ r
+      drop-is = rw ea (drop-append-le p (l ++ (x ∷ [])) r short ∙ ap (λ (z : List A). z ++ r) (drop-append-le p l (x ∷ []) hp))
 
-    pub carry-step : (k : ℕ) → p ≤ k → k < length L → get_or L k d ≡ get_or moved (k + 1) d
-    carry-step k l h =
-        let e : k + 1 ≡ length (take p L) + suc (k - p) = omega (arith, length-take-le p L hp) in
-        let f : p + (k - p) ≡ k = omega arith in
-        rw e (rw (get_or-append-add (take p L) (x ∷ drop p L) (suc (k - p)) d, get_or-drop p L (k - p) d, f))
+      n : length (t ++ (x ∷ [])) ≡ m + 1 - p
+      n = omega (arith, length-append t (x ∷ []), length-drop p l)
 
-  -- the list after the last move, where what was moved is l over the front of a base
-  pub move-end : (base l : List A) (p : ℕ) (x : A) → p ≤ length l → length l < length base → take (length l + 1) (insert_at p x (over base l)) ++ drop (length l + 1) (over base l) ≡ over base (insert_at p x l)
-  move-end base l p x hp h =
-      let r = drop (length l) base in
-      let t : insert_at p x (l ++ r) ≡ insert_at p x l ++ r =
-      rw (take-append-le p l r hp, drop-append-le p l r hp) (sym (append_assoc (take p l) (x ∷ drop p l) r)) in
-      let n : length (insert_at p x l) ≡ length l + 1 = moved-long l p x x hp ∙ sym (add-one (length l)) in
-      rw (t, take_at (insert_at p x l) r (length l + 1) n, drop-append-add l r 1, n, drop-drop 1 (length l) base)
+      k : length t ≡ length (t ++ (x ∷ [])) - 1
+      k = omega (arith, length-append t (x ∷ []))
+
+      s-is : s ≡ t ++ (x ∷ [])
+      s-is = es ∙ rw drop-is (take_at (t ++ (x ∷ [])) r (m + 1 - p) n)
+
+      after-is : drop (m + 1 - p) (drop p a) ≡ r
+      after-is = rw drop-is (drop_at (t ++ (x ∷ [])) r (m + 1 - p) n)
+
+      long : length (insert_at p x l) ≡ length (l ++ (x ∷ []))
+      long = omega (arith, inserted-long l p x hp, length-append l (x ∷ []))
 
   pub insert-last : (l : List A) (n : ℕ) (x : A) → length l ≡ n → insert_at n x l ≡ l ++ (x ∷ [])
   insert-last l n x e = let h : length l ≤ n = omega arith in rw (take_all n l h, drop_of_length-le l h)

@@ -3,13 +3,13 @@ ghost use Rattle.std.specs.Prelude.{◌≡◌};
 ghost use Rattle.management.specs.Frame.{next_seq};
 
 use crate::{EndDeviceTimeoutResponse, RejoinResponse};
-use nib::{CapabilityInformation, IeeeAddress, OptionalIeee, ShortAddress};
+use nib::{CapabilityInformation, IeeeAddress, ShortAddress};
 
 // The sender of a received frame.
 #[derive(Clone, Copy)]
 pub struct Source {
     pub address: ShortAddress,
-    pub ieee: OptionalIeee,
+    pub ieee: Option<IeeeAddress>,
 }
 
 // The options of a leave command (Zigbee 3.4.4): whether it is a request, whether the device that leaves rejoins, and whether its children are removed.
@@ -38,7 +38,7 @@ pub enum ReceivedFrame {
 #[derive(Clone, Copy)]
 pub struct CommandHeader {
     pub destination: ShortAddress,
-    pub destination_ieee: OptionalIeee,
+    pub destination_ieee: Option<IeeeAddress>,
     pub source: ShortAddress,
     pub source_ieee: IeeeAddress,
     pub sequence_number: u8,

@@ -25,6 +25,7 @@ pub struct ScanRange {
     pub duration: u8,
 }
 
+// What a join asks for.
 #[derive(Clone, Copy)]
 pub struct NlmeJoinRequest {
     pub extended_pan_id: ExtendedPanId,
@@ -34,6 +35,7 @@ pub struct NlmeJoinRequest {
     pub scan: ScanRange,
 }
 
+// How a join ended.
 #[derive(Clone, Copy)]
 pub enum NlmeJoinStatus {
     Success,
@@ -45,6 +47,7 @@ pub enum NlmeJoinStatus {
     MacError,
 }
 
+// The answer to a join.
 #[derive(Clone, Copy)]
 pub struct NlmeJoinConfirm {
     pub status: NlmeJoinStatus,
@@ -107,49 +110,27 @@ pub struct NlmeNwkStatusIndication {
     pub network_address: ShortAddress,
 }
 
+// What a rejoin response says.
 #[derive(Clone, Copy)]
 pub struct RejoinResponse {
     pub network_address: ShortAddress,
     pub status: u8,
 }
 
+// What a timeout response says.
 #[derive(Clone, Copy)]
 pub struct EndDeviceTimeoutResponse {
     pub status: u8,
     pub parent_information: u8,
 }
 
-// The slots: each keeps the newest value until it is taken.
-#[derive(Clone, Copy)]
-pub enum RejoinResponseSlot {
-    NoRejoinResponse,
-    HasRejoinResponse(RejoinResponse),
-}
-
-#[derive(Clone, Copy)]
-pub enum TimeoutResponseSlot {
-    NoTimeoutResponse,
-    HasTimeoutResponse(EndDeviceTimeoutResponse),
-}
-
-#[derive(Clone, Copy)]
-pub enum LeaveIndicationSlot {
-    NoLeaveIndication,
-    HasLeaveIndication(NlmeLeaveIndication),
-}
-
-#[derive(Clone, Copy)]
-pub enum StatusIndicationSlot {
-    NoStatusIndication,
-    HasStatusIndication(NlmeNwkStatusIndication),
-}
-
+// What was received and is still to be taken: each slot keeps the newest value until it is taken, and is empty otherwise.
 #[derive(Clone, Copy)]
 pub struct Signals {
-    pub rejoin_response: RejoinResponseSlot,
-    pub timeout_response: TimeoutResponseSlot,
-    pub leave_indication: LeaveIndicationSlot,
-    pub nwk_status_indication: StatusIndicationSlot,
+    pub rejoin_response: Option<RejoinResponse>,
+    pub timeout_response: Option<EndDeviceTimeoutResponse>,
+    pub leave_indication: Option<NlmeLeaveIndication>,
+    pub nwk_status_indication: Option<NlmeNwkStatusIndication>,
 }
 
 impl Signals {
@@ -158,67 +139,47 @@ impl Signals {
         ensures { result ≡ no_signals }
     {
         Signals {
-            rejoin_response: RejoinResponseSlot::NoRejoinResponse,
-            timeout_response: TimeoutResponseSlot::NoTimeoutResponse,
-            leave_indication: LeaveIndicationSlot::NoLeaveIndication,
-            nwk_status_indication: StatusIndicationSlot::NoStatusIndication,
+            rejoin_response: None,
+            timeout_response: None,
+            leave_indication: None,
+            nwk_status_indication: None,
         }
     }
 
     // Each of these replaces the value of one slot, or empties it; the other three stay.
-    pub fn with_rejoin_response(self, slot: RejoinResponseSlot) -> Signals
+    pub fn with_rejoin_response(self, slot: Option<RejoinResponse>) -> Signals
         ensures { result ≡ with_rejoin_response slot self }
     {
-        let timeout_response = self.timeout_response;
-        let leave_indication = self.leave_indication;
-        let nwk_status_indication = self.nwk_status_indication;
         Signals {
             rejoin_response: slot,
-            timeout_response,
-            leave_indication,
-            nwk_status_indication,
+            ..self
         }
     }
 
-    pub fn with_timeout_response(self, slot: TimeoutResponseSlot) -> Signals
+    pub fn with_timeout_response(self, slot: Option<EndDeviceTimeoutResponse>) -> Signals
         ensures { result ≡ with_timeout_response slot self }
     {
-        let rejoin_response = self.rejoin_response;
-        let leave_indication = self.leave_indication;
-        let nwk_status_indication = self.nwk_status_indication;
         Signals {
-            rejoin_response,
             timeout_response: slot,
-            leave_indication,
-            nwk_status_indication,
+            ..self
         }
     }
 
-    pub fn with_leave_indication(self, slot: LeaveIndicationSlot) -> Signals
+    pub fn with_leave_indication(self, slot: Option<NlmeLeaveIndication>) -> Signals
         ensures { result ≡ with_leave_indication slot self }
     {
-        let rejoin_response = self.rejoin_response;
-        let timeout_response = self.timeout_response;
-        let nwk_status_indication = self.nwk_status_indication;
         Signals {
-            rejoin_response,
-            timeout_response,
             leave_indication: slot,
-            nwk_status_indication,
+            ..self
         }
     }
 
-    pub fn with_status_indication(self, slot: StatusIndicationSlot) -> Signals
+    pub fn with_status_indication(self, slot: Option<NlmeNwkStatusIndication>) -> Signals
         ensures { result ≡ with_status_indication slot self }
     {
-        let rejoin_response = self.rejoin_response;
-        let timeout_response = self.timeout_response;
-        let leave_indication = self.leave_indication;
         Signals {
-            rejoin_response,
-            timeout_response,
-            leave_indication,
             nwk_status_indication: slot,
+            ..self
         }
     }
 }

@@ -1,5 +1,5 @@
 -- The marked cases P1 to P12 as one table of questions and answers (01, "Marked cases").
-use Rattle.std.specs.Prelude.{ℕ, ◌≡◌, Bool, true, false, cond, List, [], ◌∷◌, map}
+use Rattle.std.specs.Prelude.{Option, Some, None, ℕ, ◌≡◌, Bool, true, false, cond, List, [], ◌∷◌, map}
 use Rattle.lists.specs.Lists.{All}
 use Rattle.nib.specs.Identifiers.{link_cost}
 use Rattle.nib.specs.Neighbors.{NONE}
@@ -8,8 +8,6 @@ use Rattle.nib.specs.declared.NwkNeighbor.{NwkNeighbor}
 use Rattle.nib.specs.declared.DeviceType.TheVariants.{Router}
 use Rattle.candidates.specs.UpdateIds.{newest}
 use Rattle.candidates.specs.Candidates.{candidates}
-use Rattle.candidates.specs.declared.Newest.{Newest}
-use Rattle.candidates.specs.declared.Newest.TheVariants.{Nothing, Id}
 use Rattle.supervision.specs.Timer.{ticked}
 use Rattle.supervision.specs.declared.parent_timer.Ticked.{Ticked}
 use Rattle.supervision.specs.Timeouts.{refreshed}
@@ -59,9 +57,9 @@ pub data Question : Type 0 where
   -- whether a leave request is accepted: own address, destination, router, nwkLeaveRequestAllowed, and whether the parent asks
   leave_of : ℕ → ℕ → Bool → Bool → Bool → Question
 
-abbrev pub ids_of : Newest → List ℕ
-ids_of Nothing = []
-ids_of (Id id) = id ∷ []
+abbrev pub ids_of : Option ℕ → List ℕ
+ids_of None = []
+ids_of (Some id) = id ∷ []
 
 abbrev pub tick_numbers : Ticked → List ℕ
 tick_numbers t = t.timer.remaining_ms ∷ cond t.expired 1 0 ∷ []

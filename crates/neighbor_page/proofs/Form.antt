@@ -1,18 +1,16 @@
--- Laws of how long rows are, and of a page written row by row. Assumes nothing.
-use Prim.Native.Nat.{ℕ, zero, suc, ◌+◌, ◌-◌, ◌*◌, ◌<◌, ◌≤◌}
+-- Laws of how long rows are, and how many bytes they are together. Assumes nothing.
+use Rattle.std.specs.Prelude.{Option, Some, None}
+use Prim.Native.Nat.{ℕ, zero, suc, ◌+◌, ◌*◌, ◌≤◌}
 use mathlib.Core.Path.{◌≡◌, refl, sym, ap, subst, ◌∙◌}
-use mathlib.Core.List.{List, [], ◌∷◌, ◌++◌, append_assoc, append-nil, map, zip_with, flat_map}
+use mathlib.Core.List.{List, [], ◌∷◌, map, zip_with, flat_map}
 use native.Mathlib.Nat.{mul-zero, mul-suc}
 use native.Mathlib.Omega.{arith}
-use borrow.Rule.Slice.PartMut.{put_mid}
-use lib.ListN.{length, take, drop, get_or, length-append, length-drop, drop_of_length-le}
-use lib.Seq.{take_at, drop_at, drop-drop, take_all, length-take-le}
-use Rattle.lists.specs.Lists.{over, All}
-use Rattle.lists.proofs.Lists.{All-get_d}
+use lib.ListN.{length, take, length-append}
+use lib.Seq.{length-take-le}
+use Rattle.lists.specs.Lists.{All}
 use Rattle.nib.specs.Neighbors.{entry_at}
 use Rattle.nib.specs.Identifiers.{link_cost}
 use Rattle.nib.specs.declared.NwkNeighbor.{NwkNeighbor}
-use Rattle.nib.specs.declared.Neighbor.{Neighbor}
 use Rattle.text.specs.Text.{decimal_text, hex_text, right_text}
 use Rattle.text.proofs.Numbers.{right-long}
 use Rattle.neighbor_page.specs.Page.{spaced, row, first_row, entry_row, blank_row, slot_row, below, rows}
@@ -52,10 +50,10 @@ entry-48 i e =
       right-long 3 (decimal_text e.relationship),
     )
 
-pub slot-48 : (i : ℕ) (n : Neighbor) → length (slot_row i n) ≡ 48
+pub slot-48 : (i : ℕ) (n : Option NwkNeighbor) → length (slot_row i n) ≡ 48
 unfolding slot_row
-slot-48 i Neighbor.Absent = blank-48
-slot-48 i (Neighbor.Entry e) = entry-48 i e
+slot-48 i None = blank-48
+slot-48 i (Some e) = entry-48 i e
 
 slots-48 : (es : List NwkNeighbor) (is : List ℕ) → All (λ r. length r ≡ 48) (map (λ i. slot_row i (entry_at es i)) is)
 slots-48 es [] = tt
@@ -76,22 +74,6 @@ unfolding flat_map
 flat-length [] a = sym (mul-zero 48)
 flat-length (r ∷ rs) a = length-append r (flat_map (λ r. r) rs) ∙ omega (arith, a.0, flat-length rs a.1, mul-suc 48 (length rs))
 
--- one row more over the front of a buffer
-pub row_written : (b page part l r : List ℕ) (at : ℕ) → page ≡ over b l → length l ≡ at → at + length r ≤ length b → part ≡ over (take (length page - at) (drop at page)) r
-    → put_mid at (length page - at) page part ≡ over b (l ++ r)
-row_written b page part l r at p n h q =
-    let m : length page ≡ length b = ap length p ∙ length-append l (drop (length l) b) ∙ omega (arith, length-drop (length l) b) in
-    let f : take at page ≡ l = ap (take at) p ∙ take_at l (drop (length l) b) at n in
-    let g : drop at page ≡ drop at b = ap (drop at) p ∙ drop_at l (drop (length l) b) at n ∙ ap (λ (k : ℕ). drop k b) n in
-    let t : take (length page - at) (drop at page) ≡ drop at b = ap (take (length page - at)) g ∙ take_all (length page - at) (drop at b) (omega (arith, length-drop at b)) in
-    let z : drop (length page - at) (drop at page) ≡ [] = drop_of_length-le (drop at page) {i = length page - at} (omega (arith, length-drop at page)) in
-    let s : at + length r ≡ length (l ++ r) = omega (arith, length-append l r) in
-    (λ i. f i ++ ((q ∙ ap (λ (x : List ℕ). over x r) t) i ++ z i)) ∙ ap (λ (x : List ℕ). l ++ x) (append-nil (over (drop at b) r))
-    ∙ ap (λ (x : List ℕ). l ++ (r ++ x)) (drop-drop (length r) at b ∙ ap (λ (k : ℕ). drop k b) s) ∙ sym (append_assoc l r (drop (length (l ++ r)) b))
-
-pub over-size : (b l : List ℕ) → length l ≤ length b → length (over b l) ≡ length b
-over-size b l h = length-append l (drop (length l) b) ∙ omega (arith, length-drop (length l) b)
-
 -- the rows of a page, the first k of them, and one of them
 module _ (es : List NwkNeighbor) (rs : List (List ℕ)) (e : rs ≡ rows es) where
   pub rows-size : length rs ≡ 17
@@ -100,10 +82,3 @@ module _ (es : List NwkNeighbor) (rs : List (List ℕ)) (e : rs ≡ rows es) whe
   pub taken-size : (k : ℕ) → k ≤ 17 → length (flat_map (λ r. r) (take k rs)) ≡ 48 * k
   taken-size k h =
       flat-length (take k rs) (take-all-of (λ r. length r ≡ 48) k rs (subst (All (λ r. length r ≡ 48)) (sym e) (rows-48 es))) ∙ ap (λ (n : ℕ). 48 * n) (length-take-le k rs (omega (arith, rows-size)))
-
-  pub row-size : (k : ℕ) (d : List ℕ) → k < 17 → length (get_or rs k d) ≡ 48
-  row-size k d h = All-get_d (λ r. length r ≡ 48) rs k d (subst (All (λ r. length r ≡ 48)) (sym e) (rows-48 es)) (omega (arith, rows-size))
-
-  -- a buffer with room for a page, after k rows
-  pub page-size : (b page : List ℕ) (k : ℕ) → k ≤ 17 → 816 ≤ length b → page ≡ over b (flat_map (λ r. r) (take k rs)) → length page ≡ length b
-  page-size b page k h r p = ap length p ∙ over-size b (flat_map (λ r. r) (take k rs)) (omega (arith, taken-size k h))

@@ -1,4 +1,5 @@
 -- The page's form: what stands in its rows, and where. Assumes nothing.
+use Rattle.std.specs.Prelude.{Option, Some, None}
 use Prim.Native.Nat.{ℕ, zero, suc, ◌+◌, ◌*◌, ◌/◌, ◌%◌, ◌<◌, ◌≤◌}
 use mathlib.Core.Path.{◌≡◌, refl, sym, ap, subst, ◌∙◌}
 use mathlib.Core.Bool.{Bool, true, false, cond}
@@ -14,7 +15,6 @@ use Rattle.lists.proofs.Lists.{All-get_d}
 use Rattle.nib.specs.Identifiers.{link_cost}
 use Rattle.nib.specs.Neighbors.{blank, entry_at}
 use Rattle.nib.specs.declared.NwkNeighbor.{NwkNeighbor}
-use Rattle.nib.specs.declared.Neighbor.{Neighbor}
 use Rattle.text.specs.Text.{digit_byte, decimal_digits, decimal_text, hex_text, spaces, right_text}
 use Rattle.text.proofs.Numbers.{both}
 use Rattle.neighbor_page.specs.Page.{spaced, row, first_row, entry_row, blank_row, slot_row, below, rows, page, too_short, written}
@@ -133,10 +133,10 @@ entry_row_lem i e =
     ) in
     fed (spaced (right_text 2 (decimal_text i) ∷ ts)) (joined (right_text 2 (decimal_text i)) (flat_map (λ u. 32 ∷ u) ts) a b) (entry-48 i e)
 
-slot_row_lem : (i : ℕ) (n : Neighbor) → Row (slot_row i n)
+slot_row_lem : (i : ℕ) (n : Option NwkNeighbor) → Row (slot_row i n)
 unfolding slot_row
-slot_row_lem i Neighbor.Absent = blank-row
-slot_row_lem i (Neighbor.Entry e) = entry_row_lem i e
+slot_row_lem i None = blank-row
+slot_row_lem i (Some e) = entry_row_lem i e
 
 all-rows : (es : List NwkNeighbor) → All Row (rows es)
 all-rows es = (first-row, slots (below 16))
@@ -193,7 +193,7 @@ unused-row : (es : List NwkNeighbor) (k : ℕ) → length es ≤ k → k < 16 �
 unfolding blank_row slot_row
 unused-row es k n h =
     these es (suc k) (omega arith)
-    ∙ ap (take 47) (slot_at (λ i. slot_row i (entry_at es i)) 16 k h ∙ ap (λ b. slot_row k (cond b (Neighbor.Entry (get_or es k blank)) Neighbor.Absent)) (le-ltb k (length es) n))
+    ∙ ap (take 47) (slot_at (λ i. slot_row i (entry_at es i)) 16 k h ∙ ap (λ b. slot_row k (cond b (Some (get_or es k blank)) None)) (le-ltb k (length es) n))
 
 -- What stands in a lent buffer
 

@@ -1,11 +1,10 @@
 -- The neighbour page (02, L1): "the table as text of exact width". A text is the list of its bytes; 10 is the line feed, 32 the space.
-use Rattle.std.specs.Prelude.{ℕ, zero, suc, Bool, cond, ltb, length, take}
+use Rattle.std.specs.Prelude.{Option, Some, None, ℕ, zero, suc, Bool, cond, ltb, length, take}
 use mathlib.Core.List.{List, [], ◌∷◌, ◌++◌, map, zip_with, flat_map}
 use Rattle.lists.specs.Lists.{over}
 use Rattle.nib.specs.Identifiers.{link_cost}
 use Rattle.nib.specs.Neighbors.{entry_at}
 use Rattle.nib.specs.declared.NwkNeighbor.{NwkNeighbor}
-use Rattle.nib.specs.declared.Neighbor.{Neighbor}
 use Rattle.text.specs.Text.{bytes, decimal_text, hex_text, spaces, right_text}
 
 -- on which side of its column a text stands
@@ -58,9 +57,9 @@ unfoldable pub blank_row : List ℕ
 blank_row = spaces 47 ++ (10 ∷ [])
 
 -- the row of slot i of the table
-unfoldable pub slot_row : ℕ → Neighbor → List ℕ
-slot_row i Neighbor.Absent = blank_row
-slot_row i (Neighbor.Entry e) = entry_row i e
+unfoldable pub slot_row : ℕ → Option NwkNeighbor → List ℕ
+slot_row i None = blank_row
+slot_row i (Some e) = entry_row i e
 
 -- the numbers below n, in order
 abbrev pub below : ℕ → List ℕ

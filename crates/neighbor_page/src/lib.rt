@@ -1,14 +1,13 @@
 // The neighbour page for the depot screen: the neighbour table as text of exact width, written into a lent buffer.
 #![tactic(auto)]
 
-ghost use Rattle.std.specs.Prelude.{◌≡◌, not, ◌≤◌, min, length};
+ghost use Rattle.std.specs.Prelude.{◌≡◌, not, min, length};
 ghost use Rattle.std.proofs.lemmas.List.Edits.{sets};
-ghost use Rattle.lists.specs.Lists.{over};
 ghost use Rattle.nib.specs.Neighbors.{entries_of};
 ghost use Rattle.text.specs.Text.{decimal_text, hex_text, right_text};
 ghost use Rattle.neighbor_page.specs.Page.{first_row, entry_row, blank_row, slot_row, rows, too_short, written};
 
-use nib::{MAX_NEIGBOUR_TABLE, Neighbor, NeighborTable, NwkNeighbor};
+use nib::{MAX_NEIGBOUR_TABLE, NeighborTable, NwkNeighbor};
 
 // The bytes of a page: 17 rows of 47 characters, each with a line feed.
 pub const PAGE_BYTES: usize = 816;
@@ -17,21 +16,11 @@ pub const PAGE_BYTES: usize = 816;
 fn first_row() -> [u8; 48]
     ensures { result ≡ first_row }
 {
-    let mut row = [b' '; 48];
-    row[0] = b'i';
-    row[3] = b'a';
-    row[8] = b'e';
-    row[25] = b'p';
-    row[30] = b'c';
-    row[34] = b'd';
-    row[38] = b'l';
-    row[42] = b'k';
-    row[44] = b'r';
-    row[47] = b'\n';
-    row
+    *b"i  a    e                p    c   d   l   k r  \n"
 }
 
 // The row of an unused slot.
+#[tactic(auto, unfolding(crate::specs::Page::blank_row))]
 fn blank_row() -> [u8; 48]
     ensures { result ≡ blank_row }
 {
@@ -73,12 +62,13 @@ fn entry_row(index: u8, e: NwkNeighbor) -> [u8; 48]
 }
 
 // The row of a slot of the table.
-fn slot_row(index: u8, slot: Neighbor) -> [u8; 48]
+#[tactic(auto, unfolding(crate::specs::Page::slot_row))]
+fn slot_row(index: u8, slot: Option<NwkNeighbor>) -> [u8; 48]
     ensures { result ≡ slot_row index slot }
 {
     match slot {
-        Neighbor::Absent => return blank_row(),
-        Neighbor::Entry(e) => return entry_row(index, e),
+        None => blank_row(),
+        Some(e) => entry_row(index, e),
     }
 }
 
@@ -86,24 +76,18 @@ fn slot_row(index: u8, slot: Neighbor) -> [u8; 48]
 fn rows_of(table: NeighborTable) -> [[u8; 48]; 17]
     ensures { result ≡ rows (entries_of table) }
 {
-    let first = first_row();
-    let mut rows = [first; 17];
-    let mut i: u8 = 0;
-    while i < MAX_NEIGBOUR_TABLE {
-        let row = slot_row(i, table.get(i));
-        let k = i as usize + 1;
-        rows[k] = row;
-        i += 1;
+    let mut rows = [first_row(); 17];
+    for i in 0..MAX_NEIGBOUR_TABLE {
+        rows[i as usize + 1] = slot_row(i, table.get(i));
     }
     rows
 }
 
-// Writes a row at the start of a part of the page.
-fn write_row(part: &mut [u8], row: [u8; 48])
-    requires { 48 ≤ length part.old }
-    ensures { part.new ≡ over part.old row }
+// Writes a row at a place of the page.
+fn write_row(page: &mut [u8], at: usize, row: &[u8; 48])
+    ensures { page.new ≡ sets page.old at row.now }
 {
-    text::write(part, 0, &row);
+    text::write(page, at, row);
 }
 
 // Writes the page of a table at the start of a lent buffer, and says whether that was done: one shorter than a page stays as it is.
@@ -114,11 +98,8 @@ pub fn write_page(page: &mut [u8], table: NeighborTable) -> bool
         return false;
     }
     let rows = rows_of(table);
-    let mut k: usize = 0;
-    while k < 17 {
-        let at = k * 48;
-        write_row(&mut page[at..], rows[k]);
-        k += 1;
+    for (k, row) in rows.iter().enumerate() {
+        write_row(page, k * 48, row);
     }
     true
 }

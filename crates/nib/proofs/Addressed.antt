@@ -1,6 +1,7 @@
 -- The entries as commands are addressed to them: each with the IEEE address that is known of its short address. Assumes nothing.
 -- A look at a neighbour is a look at this list, and what the list is after a write is determined by what it was before.
 -- Which entry of a short address learns its IEEE address makes no difference in it.
+use Rattle.std.specs.Prelude.{Some}
 use Prim.Native.Nat.{ℕ, zero, suc}
 use mathlib.Core.Path.{◌≡◌, refl, sym, ap, ◌∙◌, fun_ext}
 use mathlib.Core.Bool.{true, false, cond, false≢true}
@@ -15,7 +16,6 @@ use Rattle.nib.specs.Neighbors.{entry_at, blank}
 use Rattle.nib.specs.declared.IeeeAddress.{IeeeAddress}
 use Rattle.nib.specs.declared.ShortAddress.{ShortAddress}
 use Rattle.nib.specs.declared.NwkNeighbor.{NwkNeighbor}
-use Rattle.nib.specs.declared.Neighbor.TheVariants.{Entry}
 use Rattle.nib.specs.NeighborTable.{has_address, is_parent, found, parent_of, ieee_number, seen_in, with_ieee, with_relationship, without_potential, cleared, learnt}
 use Rattle.nib.proofs.Looks.{found-cons, learnt-cons}
 
@@ -29,17 +29,13 @@ ieee_in es a = ieee_number (found a es)
 unfoldable pub seen : List NwkNeighbor → List NwkNeighbor
 seen es = map (look (ieee_in es)) es
 
-pub seen-long : (es : List NwkNeighbor) → length (seen es) ≡ length es
-unfolding seen
-seen-long es = length-map es (look (ieee_in es))
-
 -- reads: the entry at an index, and the parent
 
 pub entry_seen : (es : List NwkNeighbor) (i : ℕ) → seen_in es (entry_at es i) ≡ entry_at (seen es) i
 unfolding seen
 entry_seen es i =
     split (ltb i (length es))
-    (λ t. rw (length-map es (look (ieee_in es)), t) (ap (λ (e : NwkNeighbor). Entry e) (sym (get_d_map (look (ieee_in es)) es i blank blank (ltb-true i (length es) t)))))
+    (λ t. rw (length-map es (look (ieee_in es)), t) (ap (λ (e : NwkNeighbor). Some e) (sym (get_d_map (look (ieee_in es)) es i blank blank (ltb-true i (length es) t)))))
     (λ t. rw (length-map es (look (ieee_in es)), t))
 
 pub parent-seen : (es : List NwkNeighbor) → seen_in es (parent_of es) ≡ parent_of (seen es)

@@ -1,12 +1,10 @@
 -- What calls read in the neighbour table and what they write to it, over the list of its entries.
-use Rattle.std.specs.Prelude.{ℕ, Bool, false, cond, not, List, map, eqb, ltb, length}
+use Rattle.std.specs.Prelude.{Option, Some, None, ℕ, Bool, false, cond, not, List, map, eqb, ltb, length}
 use Rattle.lists.specs.Lists.{first_index, change_at, change_first, on_front, select}
 use Rattle.nib.specs.Neighbors.{PARENT, NONE, entry_at}
 use Rattle.nib.specs.declared.IeeeAddress.{IeeeAddress}
 use Rattle.nib.specs.declared.NwkNeighbor.{NwkNeighbor}
 use Rattle.nib.specs.declared.NeighborTable.{NeighborTable}
-use Rattle.nib.specs.declared.Neighbor.{Neighbor}
-use Rattle.nib.specs.declared.OptionalIeee.{OptionalIeee}
 
 -- Reading
 
@@ -17,20 +15,20 @@ abbrev pub is_parent : NwkNeighbor → Bool
 is_parent e = eqb e.relationship PARENT
 
 -- the first entry with a short address (`neighbor_ieee_address` and `learn_neighbor_ieee_address` of the source)
-unfoldable pub found : ℕ → List NwkNeighbor → Neighbor
+unfoldable pub found : ℕ → List NwkNeighbor → Option NwkNeighbor
 found a es = entry_at es (first_index (has_address a) es)
 
 -- the parent is the first entry with relationship PARENT, whatever its network (`parent_short_address` of the source)
-unfoldable pub parent_of : List NwkNeighbor → Neighbor
+unfoldable pub parent_of : List NwkNeighbor → Option NwkNeighbor
 parent_of es = entry_at es (first_index is_parent es)
 
 -- an IEEE address of 0, which an entry has from its scan, is not known (01, "Neighbour entry"; `neighbor_ieee_address` of the source)
-abbrev pub known_ieee : Neighbor → OptionalIeee
-known_ieee Neighbor.Absent = OptionalIeee.NoIeee
-known_ieee (Neighbor.Entry e) = cond (eqb e.extended_address.0 0) OptionalIeee.NoIeee (OptionalIeee.Ieee e.extended_address)
+abbrev pub known_ieee : Option NwkNeighbor → Option IeeeAddress
+known_ieee None = None
+known_ieee (Some e) = cond (eqb e.extended_address.0 0) None (Some e.extended_address)
 
 -- the IEEE address that is known of a short address (Zigbee 3.4.6.2): that of the first entry with it, even where only a later one has an IEEE address
-unfoldable pub ieee_of : ℕ → List NwkNeighbor → OptionalIeee
+unfoldable pub ieee_of : ℕ → List NwkNeighbor → Option IeeeAddress
 ieee_of a es = known_ieee (found a es)
 
 -- An entry with a change
@@ -119,15 +117,15 @@ cleared e =
 -- Reading, as commands are addressed
 
 -- the IEEE address of a neighbour as a number: 0 where there is none
-abbrev pub ieee_number : Neighbor → IeeeAddress
-ieee_number Neighbor.Absent = record { 0 = 0 }
-ieee_number (Neighbor.Entry e) = e.extended_address
+abbrev pub ieee_number : Option NwkNeighbor → IeeeAddress
+ieee_number None = record { 0 = 0 }
+ieee_number (Some e) = e.extended_address
 
 -- a neighbour as commands are addressed to it: with the IEEE address of the first entry with its short address, and not its own
 -- (`build_nwk_command_frame` of the source; Zigbee 3.4.6.2 and 3.4.11.2)
-abbrev pub seen_in : List NwkNeighbor → Neighbor → Neighbor
-seen_in es Neighbor.Absent = Neighbor.Absent
-seen_in es (Neighbor.Entry e) = Neighbor.Entry (with_ieee (ieee_number (found e.network_address.0 es)) e)
+abbrev pub seen_in : List NwkNeighbor → Option NwkNeighbor → Option NwkNeighbor
+seen_in es None = None
+seen_in es (Some e) = Some (with_ieee (ieee_number (found e.network_address.0 es)) e)
 
 -- Writing
 

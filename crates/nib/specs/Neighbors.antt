@@ -1,9 +1,8 @@
 -- The neighbour table as a list of entries (01, "Neighbour entry"; Zigbee Tables 3-63 and 3-64).
-use Rattle.std.specs.Prelude.{ℕ, ◌+◌, false, cond, List, eqb, ltb, length, take, get_or, set, replicate}
+use Rattle.std.specs.Prelude.{Option, Some, None, ℕ, ◌+◌, false, cond, List, eqb, ltb, length, take, get_or, set, replicate}
 use Rattle.lists.specs.Lists.{over}
 use Rattle.nib.specs.declared.NwkNeighbor.{NwkNeighbor}
 use Rattle.nib.specs.declared.NeighborTable.{NeighborTable}
-use Rattle.nib.specs.declared.Neighbor.{Neighbor}
 use Rattle.nib.specs.declared.DeviceType.{DeviceType}
 
 -- the relationships PARENT and NONE (01, "Join request and confirm", "Neighbour entry"; Zigbee Table 3-63)
@@ -51,8 +50,8 @@ abbrev pub table_of : List NwkNeighbor → NeighborTable
 table_of l = record { entries = over (replicate 16 blank) l; count = length l }
 
 -- the entry at an index, or none past the end
-abbrev pub entry_at : List NwkNeighbor → ℕ → Neighbor
-entry_at es i = cond (ltb i (length es)) (Neighbor.Entry (get_or es i blank)) Neighbor.Absent
+abbrev pub entry_at : List NwkNeighbor → ℕ → Option NwkNeighbor
+entry_at es i = cond (ltb i (length es)) (Some (get_or es i blank)) None
 
 -- one entry more behind those in use; a full table stays
 unfoldable pub pushed : NeighborTable → NwkNeighbor → NeighborTable

@@ -9,24 +9,17 @@ ghost use Rattle.nib.specs.Attributes.{blank_nib};
 pub mod neighbor_table;
 
 // The identifiers are distinct types, so that none is taken for another.
-#[derive(Clone, Copy)]
+#[derive(Clone, Copy, PartialEq, Eq)]
 pub struct PanId(pub u16);
 
-#[derive(Clone, Copy)]
+#[derive(Clone, Copy, PartialEq, Eq)]
 pub struct ShortAddress(pub u16);
 
-#[derive(Clone, Copy)]
+#[derive(Clone, Copy, PartialEq, Eq)]
 pub struct ExtendedPanId(pub u64);
 
-#[derive(Clone, Copy)]
+#[derive(Clone, Copy, PartialEq, Eq)]
 pub struct IeeeAddress(pub u64);
-
-// An IEEE address that a frame carries or that is known, or none.
-#[derive(Clone, Copy)]
-pub enum OptionalIeee {
-    NoIeee,
-    Ieee(IeeeAddress),
-}
 
 pub const NWK_COORDINATOR_ADDRESS: u16 = 0x0000;
 
@@ -197,13 +190,6 @@ pub struct NeighborTable {
     pub count: u8,
 }
 
-// An entry that is looked up, or that there is none.
-#[derive(Clone, Copy)]
-pub enum Neighbor {
-    Absent,
-    Entry(NwkNeighbor),
-}
-
 // What an unused slot holds.
 fn blank_entry() -> NwkNeighbor
     ensures { result ≡ blank }
@@ -241,29 +227,25 @@ impl NeighborTable {
         NeighborTable { entries, count: 0 }
     }
 
+    // The entries in use: as many as the count says, all 16 where it says more.
+    pub fn used(&self) -> &[NwkNeighbor]
+        ensures { result.now ≡ entries_of self.now }
+    {
+        lists::in_use(&self.entries, self.count as usize)
+    }
+
     // How many entries are in use: 16 where the count says more.
     pub fn len(self) -> u8
         ensures { result ≡ length (entries_of self) }
     {
-        let count = self.count;
-        if count <= MAX_NEIGBOUR_TABLE {
-            count
-        } else {
-            MAX_NEIGBOUR_TABLE
-        }
+        self.used().len() as u8
     }
 
     // The entry at an index, or that the index is past the table.
-    pub fn get(self, index: u8) -> Neighbor
+    pub fn get(self, index: u8) -> Option<NwkNeighbor>
         ensures { result ≡ entry_at (entries_of self) index }
     {
-        let count = self.len();
-        if count <= index {
-            return Neighbor::Absent;
-        }
-        let at = index as usize;
-        let e = self.entries[at];
-        Neighbor::Entry(e)
+        self.used().get(index as usize).copied()
     }
 
     // The table with one entry more at its end, or as it is where it is full.

@@ -1,10 +1,8 @@
 -- What calls do to the node's own part: frames that are sent, the signal of a parent link failure, and supervision of the parent.
-use Rattle.std.specs.Prelude.{ℕ, Bool, true, cond, []}
+use Rattle.std.specs.Prelude.{Option, Some, None, ℕ, Bool, true, cond, []}
 use Rattle.nib.specs.declared.Nib.{Nib}
 use Rattle.nib.specs.declared.ShortAddress.{ShortAddress}
 use Rattle.nib.specs.declared.NwkNeighbor.{NwkNeighbor}
-use Rattle.nib.specs.declared.Neighbor.{Neighbor}
-use Rattle.nib.specs.declared.OptionalIeee.{OptionalIeee}
 use Rattle.nib.specs.NeighborTable.{known_ieee}
 use Rattle.supervision.specs.Timer.{ticked}
 use Rattle.supervision.specs.declared.parent_timer.Ticked.{Ticked}
@@ -13,7 +11,6 @@ use Rattle.supervision.specs.Timeouts as timeouts
 use Rattle.supervision.specs.Failures.{failures_of, pair_removed, transmit_failed}
 use Rattle.management.specs.Signals.{no_signals, with_status_indication}
 use Rattle.management.specs.declared.SendAnswer.{SendAnswer}
-use Rattle.management.specs.declared.StatusIndicationSlot.{StatusIndicationSlot}
 use Rattle.management.specs.Frame.{next_seq}
 use Rattle.management.specs.declared.frame.CommandHeader.{CommandHeader}
 use Rattle.management.specs.declared.frame.SentCommand.{SentCommand}
@@ -24,6 +21,7 @@ use Rattle.nlme.specs.declared.ViaParent.{ViaParent}
 use Rattle.nlme.specs.declared.Transmission.{Transmission}
 use Rattle.nlme.specs.declared.Transmitting.{Transmitting}
 use Rattle.nlme.specs.Fields.{with_nib, with_seq, with_pending, with_timer, with_signals, with_failures, with_negotiated}
+use Rattle.nib.specs.declared.IeeeAddress.{IeeeAddress}
 
 -- before the first call, as the source's `Nlme::new` has it: no timeout request is pending, the timer is inactive, every slot is empty, and no send has failed
 unfoldable pub new_nlme : Nib → ℕ → Nlme
@@ -38,13 +36,13 @@ new_nlme nib seq =
     }
 
 -- "the parent's short address" (01, "Supervision record" and "Two nodes"): the one that a signal carries, 0xffff where there is no parent
-abbrev pub parent_address : Neighbor → ShortAddress
-parent_address Neighbor.Absent = record { 0 = 0xffff }
-parent_address (Neighbor.Entry e) = e.network_address
+abbrev pub parent_address : Option NwkNeighbor → ShortAddress
+parent_address None = record { 0 = 0xffff }
+parent_address (Some e) = e.network_address
 
 -- the signal ParentLinkFailure (01, "Supervision record"; Zigbee 3.2.2.32): the slot has the parent's short address
-unfoldable pub link_failure : Neighbor → Nlme → Nlme
-link_failure parent n = with_signals (with_status_indication (StatusIndicationSlot.HasStatusIndication (record { network_address = parent_address parent })) n.signals) n
+unfoldable pub link_failure : Option NwkNeighbor → Nlme → Nlme
+link_failure parent n = with_signals (with_status_indication (Some (record { network_address = parent_address parent })) n.signals) n
 
 -- the timer restarted at the negotiated timeout; 0 where there is none (Zigbee 3.6.10.6)
 unfoldable pub refreshed : Nlme → Nlme
@@ -56,7 +54,7 @@ negotiation_reset n = with_timer (record { remaining_ms = 0 }) (with_nib (with_n
 
 -- the header of the next command frame: own addresses, the next sequence number, and the destination's IEEE address where it is known
 -- (Zigbee 3.3.2, 3.4.6.2 and 3.4.11.2)
-unfoldable pub command_header : Nlme → ShortAddress → OptionalIeee → Bool → CommandHeader
+unfoldable pub command_header : Nlme → ShortAddress → Option IeeeAddress → Bool → CommandHeader
 command_header n destination ieee secure =
     record {
       destination = destination;
@@ -81,32 +79,32 @@ timeout_requested parent n =
     record {
       nlme = with_pending n.nib.end_device_timeout_default (seq_used n);
       transmission = transmission n parent.network_address
-          (SentFrame.CommandFrame (command_header n parent.network_address (known_ieee (Neighbor.Entry parent)) true) (SentCommand.TimeoutRequest n.nib.end_device_timeout_default));
+          (SentFrame.CommandFrame (command_header n parent.network_address (known_ieee (Some parent)) true) (SentCommand.TimeoutRequest n.nib.end_device_timeout_default));
     }
 
 -- the tick (01, "Supervision record"; Zigbee 3.6.10.6): expiry signals ParentLinkFailure
-unfoldable pub expiry_signalled : Neighbor → Nlme → Ticked → NlmeTicked
+unfoldable pub expiry_signalled : Option NwkNeighbor → Nlme → Ticked → NlmeTicked
 expiry_signalled parent n t =
     record {
       nlme = cond t.expired (link_failure parent (with_timer t.timer n)) (with_timer t.timer n);
       expired = t.expired;
     }
 
-abbrev pub nlme_ticked : Neighbor → ℕ → Nlme → NlmeTicked
+abbrev pub nlme_ticked : Option NwkNeighbor → ℕ → Nlme → NlmeTicked
 nlme_ticked parent elapsed n = expiry_signalled parent n (ticked n.parent_timer elapsed)
 
 -- the outcome of a send by `transmit_via_parent` (01, "Supervision record"; Zigbee 3.6.3.7).
 -- A success removes the parent's pair and restarts the timer; a failure counts, and the third signals ParentLinkFailure
-unfoldable pub sent_via_parent : Neighbor → Nlme → ViaParent
+unfoldable pub sent_via_parent : Option NwkNeighbor → Nlme → ViaParent
 sent_via_parent parent n =
     record { nlme = refreshed (with_failures (pair_removed n.transmit_failures (parent_address parent)) n); answer = SendAnswer.SendOk }
 
-unfoldable pub failure_counted : Neighbor → Nlme → FailedSend → ViaParent
+unfoldable pub failure_counted : Option NwkNeighbor → Nlme → FailedSend → ViaParent
 failure_counted parent n f =
     record {
       nlme = cond f.link_failed (link_failure parent (with_failures f.failures n)) (with_failures f.failures n);
       answer = cond f.link_failed SendAnswer.SendParentLinkFailure SendAnswer.SendMacError;
     }
 
-abbrev pub failed_via_parent : Neighbor → Nlme → ViaParent
+abbrev pub failed_via_parent : Option NwkNeighbor → Nlme → ViaParent
 failed_via_parent parent n = failure_counted parent n (transmit_failed n.transmit_failures (parent_address parent))

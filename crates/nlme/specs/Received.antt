@@ -1,21 +1,16 @@
 -- What a received frame does (01, "Received frame"; Zigbee 3.4 and 3.6.1.10).
 -- The parent is the first entry with relationship PARENT, and its IEEE address the one known of its short address.
 -- `broadcastIeee` is the IEEE address known of the broadcast address 0xffff.
-use Rattle.std.specs.Prelude.{ℕ, Bool, true, false, cond, not, ◌&&◌, List, eqb, ltb}
+use Rattle.std.specs.Prelude.{Option, Some, None, ℕ, Bool, true, false, cond, not, ◌&&◌, List, eqb, ltb}
 use Rattle.nib.specs.Identifiers.{bit}
 use Rattle.nib.specs.declared.Nib.{Nib}
 use Rattle.nib.specs.declared.NwkNeighbor.{NwkNeighbor}
-use Rattle.nib.specs.declared.Neighbor.{Neighbor}
 use Rattle.nib.specs.declared.ShortAddress.{ShortAddress}
-use Rattle.nib.specs.declared.OptionalIeee.{OptionalIeee}
 use Rattle.nib.specs.NeighborTable.{learnt, known_ieee}
 use Rattle.management.specs.Signals.{with_rejoin_response, with_timeout_response, with_leave_indication}
 use Rattle.management.specs.declared.RejoinResponse.{RejoinResponse}
 use Rattle.management.specs.declared.EndDeviceTimeoutResponse.{EndDeviceTimeoutResponse}
-use Rattle.management.specs.declared.RejoinResponseSlot.{RejoinResponseSlot}
-use Rattle.management.specs.declared.TimeoutResponseSlot.{TimeoutResponseSlot}
 use Rattle.management.specs.declared.LeavingDevice.{LeavingDevice}
-use Rattle.management.specs.declared.LeaveIndicationSlot.{LeaveIndicationSlot}
 use Rattle.management.specs.declared.PollAnswer.{PollAnswer}
 use Rattle.management.specs.declared.frame.Source.{Source}
 use Rattle.management.specs.declared.frame.LeaveOptions.{LeaveOptions}
@@ -26,14 +21,14 @@ use Rattle.nlme.specs.Fields.{with_nib, with_pending, with_signals, with_address
 use Rattle.nlme.specs.Nlme.{refreshed, command_header, seq_used, transmission, parent_address}
 use Rattle.nlme.specs.declared.Nlme.{Nlme}
 use Rattle.nlme.specs.declared.Transmission.{Transmission}
-use Rattle.nlme.specs.declared.received.TableChange.{TableChange}
 use Rattle.nlme.specs.declared.received.Then.{Then}
 use Rattle.nlme.specs.declared.received.Handled.{Handled}
+use Rattle.nib.specs.declared.IeeeAddress.{IeeeAddress}
 
 -- "Data and commands that carry the sender's IEEE address first teach it to the first entry with its short address"
-unfoldable pub taught_by : OptionalIeee → ShortAddress → List NwkNeighbor → List NwkNeighbor
-taught_by OptionalIeee.NoIeee a es = es
-taught_by (OptionalIeee.Ieee x) a es = learnt a.0 x es
+unfoldable pub taught_by : Option IeeeAddress → ShortAddress → List NwkNeighbor → List NwkNeighbor
+taught_by None a es = es
+taught_by (Some x) a es = learnt a.0 x es
 
 unfoldable pub taught : ReceivedFrame → List NwkNeighbor → List NwkNeighbor
 taught ReceivedFrame.Undecodable es = es
@@ -47,7 +42,7 @@ taught ReceivedFrame.OtherFrame es = es
 -- "A rejoin response of status 0 sets the network address". Every response fills its slot, asked for or not
 -- (`handle_nwk_command` of the source; Zigbee 3.4.7.3.1)
 abbrev pub rejoin_signalled : RejoinResponse → Nlme → Nlme
-rejoin_signalled r n = with_signals (with_rejoin_response (RejoinResponseSlot.HasRejoinResponse r) n.signals) n
+rejoin_signalled r n = with_signals (with_rejoin_response (Some r) n.signals) n
 
 unfoldable pub rejoin_responded : RejoinResponse → Nlme → Nlme
 rejoin_responded r n = rejoin_signalled r (cond (eqb r.status 0) (with_nib (with_address r.network_address n.nib) n) n)
@@ -56,7 +51,7 @@ rejoin_responded r n = rejoin_signalled r (cond (eqb r.status 0) (with_nib (with
 -- Both are parent information and timeout index. Every response fills its slot, asked for or not
 -- (`handle_nwk_command` of the source; Zigbee 3.6.10.2 and 3.6.10.3)
 abbrev pub timeout_signalled : EndDeviceTimeoutResponse → Nlme → Nlme
-timeout_signalled r n = with_signals (with_timeout_response (TimeoutResponseSlot.HasTimeoutResponse r) n.signals) (with_pending 0xff n)
+timeout_signalled r n = with_signals (with_timeout_response (Some r) n.signals) (with_pending 0xff n)
 
 unfoldable pub stored : ℕ → Nlme → Nlme
 stored information n = refreshed (with_nib (with_negotiated information n.pending_timeout_request n.nib) n)
@@ -66,24 +61,24 @@ timeout_responded r n =
     timeout_signalled r (cond (eqb r.status 0 && not (eqb n.pending_timeout_request 0xff)) (stored r.parent_information n) n)
 
 -- whether a frame is the parent's
-abbrev pub is_from_parent : Neighbor → ShortAddress → Bool
-is_from_parent Neighbor.Absent a = false
-is_from_parent (Neighbor.Entry p) a = eqb p.network_address.0 a.0
+abbrev pub is_from_parent : Option NwkNeighbor → ShortAddress → Bool
+is_from_parent None a = false
+is_from_parent (Some p) a = eqb p.network_address.0 a.0
 
 -- the leave indication: whose leave it is, and its rejoin bit (Zigbee 3.2.2.19; a short address in it is request L2's)
 abbrev pub leave_indicated : LeavingDevice → Bool → Nlme → Nlme
 leave_indicated device rejoin n =
-    with_signals (with_leave_indication (LeaveIndicationSlot.HasLeaveIndication (record { device = device; rejoin = rejoin })) n.signals) n
+    with_signals (with_leave_indication (Some (record { device = device; rejoin = rejoin })) n.signals) n
 
 -- 02, L2: "a neighbour by IEEE address; a neighbour by short address, exactly where a leave without the request bit from another than the parent
 -- has no IEEE address". The frame's field is meant, and not what the table knows of its sender: an IEEE address of 0 is one
-abbrev pub neighbor_leaving : OptionalIeee → ShortAddress → LeavingDevice
-neighbor_leaving (OptionalIeee.Ieee x) a = LeavingDevice.NeighborByIeee x
-neighbor_leaving OptionalIeee.NoIeee a = LeavingDevice.NeighborByShort a
+abbrev pub neighbor_leaving : Option IeeeAddress → ShortAddress → LeavingDevice
+neighbor_leaving (Some x) a = LeavingDevice.NeighborByIeee x
+neighbor_leaving None a = LeavingDevice.NeighborByShort a
 
 -- "Leave without the request bit": "From the parent it zeroes the extended PAN id" (01), and is indicated as "this device, for the parent's leave" (02, L2).
 -- From another it is indicated as that neighbour's
-unfoldable pub neighbor_left : Neighbor → Source → Bool → Nlme → Nlme
+unfoldable pub neighbor_left : Option NwkNeighbor → Source → Bool → Nlme → Nlme
 neighbor_left parent s rejoin n =
     cond (is_from_parent parent s.address)
     (leave_indicated LeavingDevice.ThisDevice rejoin (with_nib (with_extended_pan_id (record { 0 = 0 }) n.nib) n))
@@ -98,11 +93,11 @@ accepts_leave nib destination by_parent =
     && cond (bit 1 nib.capability_information.0) nib.leave_request_allowed by_parent
 
 -- `announce_leave` (Zigbee 3.6.1.10.1): a router broadcasts, an end device tells its parent with the remove children bit 0
-abbrev pub leave_to : Nlme → ShortAddress → OptionalIeee → Bool → Bool → Transmission
+abbrev pub leave_to : Nlme → ShortAddress → Option IeeeAddress → Bool → Bool → Transmission
 leave_to n to ieee rejoin children =
     transmission n to (SentFrame.CommandFrame (command_header n to ieee true) (SentCommand.Leave (record { request = false; rejoin = rejoin; remove_children = children })))
 
-unfoldable pub announcement : Nlme → Neighbor → OptionalIeee → LeaveOptions → Transmission
+unfoldable pub announcement : Nlme → Option NwkNeighbor → Option IeeeAddress → LeaveOptions → Transmission
 announcement n parent broadcastIeee o =
     cond (bit 1 n.nib.capability_information.0)
     (leave_to n (record { 0 = 0xffff }) broadcastIeee o.rejoin o.remove_children)
@@ -110,24 +105,24 @@ announcement n parent broadcastIeee o =
 
 -- a frame that is dealt with: the table as it is, and what a single poll or receive answers
 abbrev pub dealt_with : Nlme → PollAnswer → Handled
-dealt_with n a = record { nlme = n; change = TableChange.KeepTable; then = Then.Over a }
+dealt_with n a = record { nlme = n; removed = None; then = Then.Over a }
 
 -- a leave request: an accepted one is announced, which uses a sequence number (01, "Received frame")
-unfoldable pub leave_requested : Neighbor → OptionalIeee → ShortAddress → ShortAddress → LeaveOptions → Nlme → Handled
+unfoldable pub leave_requested : Option NwkNeighbor → Option IeeeAddress → ShortAddress → ShortAddress → LeaveOptions → Nlme → Handled
 leave_requested parent broadcastIeee s d o n =
     cond (accepts_leave n.nib d (is_from_parent parent s))
-    (record { nlme = seq_used n; change = TableChange.KeepTable; then = Then.Announce (record { transmission = announcement n parent broadcastIeee o; rejoin = o.rejoin }) })
+    (record { nlme = seq_used n; removed = None; then = Then.Announce (record { transmission = announcement n parent broadcastIeee o; rejoin = o.rejoin }) })
     (dealt_with n PollAnswer.PollNothing)
 
 -- a leave command: "Leave without the request bit removes every entry of that address" (Zigbee 3.6.1.10.3)
-unfoldable pub leave_handled : Neighbor → OptionalIeee → Source → ShortAddress → LeaveOptions → Nlme → Handled
+unfoldable pub leave_handled : Option NwkNeighbor → Option IeeeAddress → Source → ShortAddress → LeaveOptions → Nlme → Handled
 leave_handled parent broadcastIeee s d o n =
     cond o.request
     (leave_requested parent broadcastIeee s.address d o n)
-    (record { nlme = neighbor_left parent s o.rejoin n; change = TableChange.RemoveNeighbor s.address; then = Then.Over PollAnswer.PollNothing })
+    (record { nlme = neighbor_left parent s o.rejoin n; removed = Some s.address; then = Then.Over PollAnswer.PollNothing })
 
 -- `process_received_nwk_frame`, after the teaching
-unfoldable pub handled : Neighbor → OptionalIeee → ReceivedFrame → Nlme → Handled
+unfoldable pub handled : Option NwkNeighbor → Option IeeeAddress → ReceivedFrame → Nlme → Handled
 handled parent broadcastIeee ReceivedFrame.Undecodable n = dealt_with n PollAnswer.PollUndecodable
 handled parent broadcastIeee (ReceivedFrame.Data s) n = dealt_with n PollAnswer.PollData
 handled parent broadcastIeee (ReceivedFrame.RejoinResponseCommand s r) n = dealt_with (rejoin_responded r n) PollAnswer.PollNothing

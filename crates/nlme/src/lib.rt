@@ -8,13 +8,12 @@ ghost use Rattle.nlme.specs.Nlme.{new_nlme, parent_address, link_failure, refres
 pub mod received;
 
 use management::frame::{CommandHeader, SentCommand, SentFrame};
-use management::{NlmeNwkStatusIndication, SendAnswer, Signals, StatusIndicationSlot, frame};
+use management::{NlmeNwkStatusIndication, SendAnswer, Signals, frame};
 use nib::{
-    NO_TIMEOUT_NEGOTIATED, Neighbor, Nib, NwkNeighbor, OptionalIeee, PanId, ShortAddress,
-    neighbor_table,
+    IeeeAddress, NO_TIMEOUT_NEGOTIATED, Nib, NwkNeighbor, PanId, ShortAddress, neighbor_table,
 };
-use supervision::parent_timer::ParentTimer;
-use supervision::{KeepaliveMethod, OptionalPeriod, TransmitFailures};
+use supervision::parent_timer::{ParentTimer, Ticked};
+use supervision::{KeepaliveMethod, TransmitFailures};
 
 // No timeout request awaits its response.
 pub const NO_PENDING_TIMEOUT: u8 = 0xff;
@@ -62,18 +61,19 @@ pub struct ViaParent {
 }
 
 // The parent's short address, 0xffff where there is no parent.
-pub fn parent_address(parent: Neighbor) -> ShortAddress
+pub fn parent_address(parent: Option<NwkNeighbor>) -> ShortAddress
     ensures { result ≡ parent_address parent }
 {
-    match parent {
-        Neighbor::Absent => return ShortAddress(nib::NWK_UNASSIGNED_ADDRESS),
-        Neighbor::Entry(e) => return e.network_address,
-    }
+    parent.map_or(
+        ShortAddress(nib::NWK_UNASSIGNED_ADDRESS),
+        |e| e.network_address,
+    )
 }
 
 impl Nlme {
     // As the source's `Nlme::new`: with these attributes and this last sequence number, which the source draws at random. No timeout request is pending, the
     // timer is inactive, every slot is empty, and no send has failed.
+    #[tactic(auto, unfolding(crate::specs::Nlme::new_nlme))]
     pub fn new(nib: Nib, nwk_seq: u8) -> Nlme
         ensures { result ≡ new_nlme nib nwk_seq }
     {
@@ -88,54 +88,53 @@ impl Nlme {
     }
 
     // Signals ParentLinkFailure with the parent's short address.
-    pub fn parent_link_failure(mut self, parent: Neighbor) -> Nlme
+    #[tactic(auto, unfolding(crate::specs::Nlme::link_failure))]
+    pub fn parent_link_failure(mut self, parent: Option<NwkNeighbor>) -> Nlme
         ensures { result ≡ link_failure parent self }
     {
         let network_address = parent_address(parent);
-        let indication = NlmeNwkStatusIndication { network_address };
-        let slot = StatusIndicationSlot::HasStatusIndication(indication);
-        let signals = self.signals.with_status_indication(slot);
-        self.signals = signals;
+        self.signals = self
+            .signals
+            .with_status_indication(Some(NlmeNwkStatusIndication { network_address }));
         self
     }
 
     // Restarts the timer at the negotiated timeout.
+    #[tactic(auto, unfolding(crate::specs::Nlme::refreshed))]
     pub fn refresh_parent_timeout(mut self) -> Nlme
         ensures { result ≡ refreshed self }
     {
-        let timer = supervision::refresh_parent_timeout(self.nib.end_device_timeout);
-        self.parent_timer = timer;
+        self.parent_timer = supervision::refresh_parent_timeout(self.nib.end_device_timeout);
         self
     }
 
     // Parent information 0, timeout index 0xff, timer 0.
+    #[tactic(auto, unfolding(crate::specs::Nlme::negotiation_reset))]
     pub fn reset_parent_negotiation(mut self) -> Nlme
         ensures { result ≡ negotiation_reset self }
     {
         self.nib.parent_information = 0;
         self.nib.end_device_timeout = NO_TIMEOUT_NEGOTIATED;
-        self.parent_timer.remaining_ms = 0;
+        self.parent_timer = ParentTimer { remaining_ms: 0 };
         self
     }
 
     // The header of the next command frame.
+    #[tactic(auto, unfolding(crate::specs::Nlme::command_header))]
     pub fn command_header(
         self,
         destination: ShortAddress,
-        destination_ieee: OptionalIeee,
+        destination_ieee: Option<IeeeAddress>,
         secure: bool,
     ) -> CommandHeader
         ensures { result ≡ command_header self destination destination_ieee secure }
     {
-        let source = self.nib.network_address;
-        let source_ieee = self.nib.ieee_address;
-        let sequence_number = frame::next_nwk_seq(self.nwk_seq);
         CommandHeader {
             destination,
             destination_ieee,
-            source,
-            source_ieee,
-            sequence_number,
+            source: self.nib.network_address,
+            source_ieee: self.nib.ieee_address,
+            sequence_number: frame::next_nwk_seq(self.nwk_seq),
             secure,
         }
     }
@@ -149,23 +148,22 @@ impl Nlme {
     }
 
     // A timeout request to the parent as it is transmitted.
+    #[tactic(auto, unfolding(crate::specs::Nlme::timeout_requested))]
     fn timeout_transmission(self, parent: NwkNeighbor) -> Transmission
         ensures { result ≡ (timeout_requested parent self).transmission }
     {
-        let ieee = neighbor_table::known_ieee(Neighbor::Entry(parent));
+        let ieee = neighbor_table::known_ieee(Some(parent));
         let header = self.command_header(parent.network_address, ieee, true);
         let command = SentCommand::TimeoutRequest(self.nib.end_device_timeout_default);
-        let frame = SentFrame::CommandFrame(header, command);
-        let pan_id = self.nib.panid;
-        let address = parent.network_address;
         Transmission {
-            pan_id,
-            address,
-            frame,
+            pan_id: self.nib.panid,
+            address: parent.network_address,
+            frame: SentFrame::CommandFrame(header, command),
         }
     }
 
     // A timeout request to the parent, pending once it is built.
+    #[tactic(auto, unfolding(crate::specs::Nlme::timeout_requested))]
     pub fn timeout_request(mut self, parent: NwkNeighbor) -> Transmitting
         ensures { result ≡ timeout_requested parent self }
     {
@@ -179,27 +177,31 @@ impl Nlme {
     }
 
     // The timer tick.
-    pub fn tick_parent_timeout(mut self, parent: Neighbor, elapsed_ms: u32) -> NlmeTicked
+    #[tactic(auto, unfolding(crate::specs::Nlme::expiry_signalled))]
+    pub fn tick_parent_timeout(mut self, parent: Option<NwkNeighbor>, elapsed_ms: u32) -> NlmeTicked
         ensures { result ≡ nlme_ticked parent elapsed_ms self }
     {
-        let t = self.parent_timer.tick(elapsed_ms);
-        self.parent_timer.remaining_ms = t.timer.remaining_ms;
-        if t.expired {
+        let Ticked { timer, expired } = self.parent_timer.tick(elapsed_ms);
+        self.parent_timer = timer;
+        if expired {
             self = self.parent_link_failure(parent);
         }
         NlmeTicked {
             nlme: self,
-            expired: t.expired,
+            expired,
         }
     }
 
     // A send through the parent succeeded.
-    pub fn sent_via_parent(mut self, parent: Neighbor) -> ViaParent
+    #[tactic(auto, unfolding(crate::specs::Nlme::sent_via_parent))]
+    pub fn sent_via_parent(mut self, parent: Option<NwkNeighbor>) -> ViaParent
         ensures { result ≡ sent_via_parent parent self }
     {
         let address = parent_address(parent);
-        let failures = supervision::clear_transmit_failures(self.transmit_failures, address);
-        self.transmit_failures = failures;
+        self.transmit_failures = supervision::clear_transmit_failures(
+            self.transmit_failures,
+            address,
+        );
         ViaParent {
             nlme: self.refresh_parent_timeout(),
             answer: SendAnswer::SendOk,
@@ -207,19 +209,23 @@ impl Nlme {
     }
 
     // A send through the parent failed.
-    pub fn failed_via_parent(mut self, parent: Neighbor) -> ViaParent
+    #[tactic(auto, unfolding(crate::specs::Nlme::failure_counted))]
+    pub fn failed_via_parent(mut self, parent: Option<NwkNeighbor>) -> ViaParent
         ensures { result ≡ failed_via_parent parent self }
     {
-        let address = parent_address(parent);
-        let f = supervision::transmit_failed(self.transmit_failures, address);
-        let failures = f.failures;
-        self.transmit_failures = failures;
-        let mut answer = SendAnswer::SendMacError;
-        if f.link_failed {
-            self = self.parent_link_failure(parent);
-            answer = SendAnswer::SendParentLinkFailure;
+        let failed = supervision::transmit_failed(self.transmit_failures, parent_address(parent));
+        self.transmit_failures = failed.failures;
+        if failed.link_failed {
+            ViaParent {
+                nlme: self.parent_link_failure(parent),
+                answer: SendAnswer::SendParentLinkFailure,
+            }
+        } else {
+            ViaParent {
+                nlme: self,
+                answer: SendAnswer::SendMacError,
+            }
         }
-        ViaParent { nlme: self, answer }
     }
 
     // The keepalive that the parent expects.
@@ -230,14 +236,14 @@ impl Nlme {
     }
 
     // The interval between keepalives in milliseconds.
-    pub fn keepalive_interval_ms(self) -> OptionalPeriod
+    pub fn keepalive_interval_ms(self) -> Option<u32>
         ensures { result ≡ keepalive_interval_ms self.nib.end_device_timeout }
     {
         supervision::keepalive_interval_ms(self.nib.end_device_timeout)
     }
 
     // The interval between polls in milliseconds, where polls are the keepalive.
-    pub fn negotiated_poll_interval_ms(self) -> OptionalPeriod
+    pub fn negotiated_poll_interval_ms(self) -> Option<u32>
         ensures { result ≡ negotiated_poll_interval_ms self.nib.end_device_timeout self.nib.parent_information }
     {
         supervision::negotiated_poll_interval_ms(

@@ -6,17 +6,12 @@ ghost use Rattle.nlme.specs.Received.{taught_by, taught, rejoin_responded, timeo
 use crate::{Nlme, Transmission};
 use management::frame::{LeaveOptions, ReceivedFrame, SentCommand, SentFrame, Source};
 use management::{
-    EndDeviceTimeoutResponse, LeaveIndicationSlot, LeavingDevice, NlmeLeaveIndication, PollAnswer,
-    RejoinResponse, RejoinResponseSlot, TimeoutResponseSlot, frame,
+    EndDeviceTimeoutResponse, LeavingDevice, NlmeLeaveIndication, PollAnswer, RejoinResponse,
 };
-use nib::{Neighbor, NeighborTable, Nib, OptionalIeee, ShortAddress, neighbor_table};
-
-// What a frame does to the neighbour table.
-#[derive(Clone, Copy)]
-pub enum TableChange {
-    KeepTable,
-    RemoveNeighbor(ShortAddress),
-}
+use nib::{
+    ExtendedPanId, IeeeAddress, NeighborTable, Nib, NwkNeighbor, PanId, ShortAddress,
+    neighbor_table,
+};
 
 // The announcement of this device's leave: the frame, and whether the device rejoins.
 #[derive(Clone, Copy)]
@@ -32,102 +27,90 @@ pub enum Then {
     Announce(LeaveAnnouncement),
 }
 
+// What a frame leaves, the address of the neighbour that leaves the table, and what follows.
 #[derive(Clone, Copy)]
 pub struct Handled {
     pub nlme: Nlme,
-    pub change: TableChange,
+    pub removed: Option<ShortAddress>,
     pub then: Then,
 }
 
+#[tactic(auto, unfolding(crate::specs::Received::taught_by))]
 fn learn_source(table: NeighborTable, source: Source) -> NeighborTable
     ensures { result ≡ on_entries (taught_by source.ieee source.address) table }
 {
-    let address = source.address;
-    let ieee = source.ieee;
-    match ieee {
-        OptionalIeee::NoIeee => return table,
-        OptionalIeee::Ieee(x) => {
-            return neighbor_table::learn_neighbor_ieee_address(table, address, x);
-        }
+    match source.ieee {
+        Some(ieee) => neighbor_table::learn_neighbor_ieee_address(table, source.address, ieee),
+        None => table,
     }
 }
 
 // The table after a frame has taught its sender's IEEE address.
+#[tactic(auto, unfolding(crate::specs::Received::taught))]
 pub fn learn_neighbor(table: NeighborTable, frame: ReceivedFrame) -> NeighborTable
     ensures { result ≡ on_entries (taught frame) table }
 {
     match frame {
-        ReceivedFrame::Undecodable => return table,
-        ReceivedFrame::Data(s) => return learn_source(table, s),
-        ReceivedFrame::RejoinResponseCommand(s, _) => return learn_source(table, s),
-        ReceivedFrame::TimeoutResponseCommand(s, _) => return learn_source(table, s),
-        ReceivedFrame::LeaveCommand(s, _, _) => return learn_source(table, s),
-        ReceivedFrame::OtherCommand(s) => return learn_source(table, s),
-        ReceivedFrame::OtherFrame => return table,
+        ReceivedFrame::Data(source)
+        | ReceivedFrame::RejoinResponseCommand(source, _)
+        | ReceivedFrame::TimeoutResponseCommand(source, _)
+        | ReceivedFrame::LeaveCommand(source, _, _)
+        | ReceivedFrame::OtherCommand(source) => learn_source(table, source),
+        ReceivedFrame::Undecodable | ReceivedFrame::OtherFrame => table,
     }
 }
 
+#[tactic(auto, unfolding(crate::specs::Received::rejoin_responded))]
 fn handle_rejoin_response(mut nlme: Nlme, response: RejoinResponse) -> Nlme
     ensures { result ≡ rejoin_responded response nlme }
 {
-    let slot = RejoinResponseSlot::HasRejoinResponse(response);
-    let signals = nlme.signals.with_rejoin_response(slot);
-    nlme.signals = signals;
+    nlme.signals = nlme.signals.with_rejoin_response(Some(response));
     if response.status == 0 {
-        nlme.nib.network_address.0 = response.network_address.0;
+        nlme.nib.network_address = response.network_address;
     }
     nlme
 }
 
 // The negotiated timeout is stored and the timer restarted.
+#[tactic(auto, unfolding(crate::specs::Received::stored))]
 fn store_negotiated(mut nlme: Nlme, parent_information: u8) -> Nlme
     ensures { result ≡ stored parent_information nlme }
 {
     nlme.nib.parent_information = parent_information;
-    let index = nlme.pending_timeout_request;
-    nlme.nib.end_device_timeout = index;
+    nlme.nib.end_device_timeout = nlme.pending_timeout_request;
     nlme.refresh_parent_timeout()
 }
 
 fn signal_timeout_response(mut nlme: Nlme, response: EndDeviceTimeoutResponse) -> Nlme
     ensures { result ≡ timeout_signalled response nlme }
 {
-    let slot = TimeoutResponseSlot::HasTimeoutResponse(response);
-    let signals = nlme.signals.with_timeout_response(slot);
-    nlme.signals = signals;
+    nlme.signals = nlme.signals.with_timeout_response(Some(response));
     nlme.pending_timeout_request = crate::NO_PENDING_TIMEOUT;
     nlme
 }
 
-fn handle_timeout_response(nlme: Nlme, response: EndDeviceTimeoutResponse) -> Nlme
+#[tactic(auto, unfolding(crate::specs::Received::timeout_responded))]
+fn handle_timeout_response(mut nlme: Nlme, response: EndDeviceTimeoutResponse) -> Nlme
     ensures { result ≡ timeout_responded response nlme }
 {
-    if response.status != 0 {
-        return signal_timeout_response(nlme, response);
+    if response.status == 0 && nlme.pending_timeout_request != crate::NO_PENDING_TIMEOUT {
+        nlme = store_negotiated(nlme, response.parent_information);
     }
-    if nlme.pending_timeout_request == crate::NO_PENDING_TIMEOUT {
-        return signal_timeout_response(nlme, response);
-    }
-    let kept = store_negotiated(nlme, response.parent_information);
-    signal_timeout_response(kept, response)
+    signal_timeout_response(nlme, response)
 }
 
-fn is_from_parent(parent: Neighbor, source: ShortAddress) -> bool
+fn is_from_parent(parent: Option<NwkNeighbor>, source: ShortAddress) -> bool
     ensures { result ≡ is_from_parent parent source }
 {
-    match parent {
-        Neighbor::Absent => return false,
-        Neighbor::Entry(p) => return p.network_address.0 == source.0,
-    }
+    parent.is_some_and(|p| p.network_address == source)
 }
 
 fn indicate_leave(mut nlme: Nlme, device: LeavingDevice, rejoin: bool) -> Nlme
     ensures { result ≡ leave_indicated device rejoin nlme }
 {
-    let indication = NlmeLeaveIndication { device, rejoin };
-    let slot = LeaveIndicationSlot::HasLeaveIndication(indication);
-    let signals = nlme.signals.with_leave_indication(slot);
-    nlme.signals = signals;
+    nlme.signals = nlme
+        .signals
+        .with_leave_indication(Some(NlmeLeaveIndication { device, rejoin }));
     nlme
 }
 
@@ -135,89 +118,89 @@ fn indicate_leave(mut nlme: Nlme, device: LeavingDevice, rejoin: bool) -> Nlme
 fn neighbor_leaving(source: Source) -> LeavingDevice
     ensures { result ≡ neighbor_leaving source.ieee source.address }
 {
-    let address = source.address;
-    let ieee = source.ieee;
-    match ieee {
-        OptionalIeee::NoIeee => return LeavingDevice::NeighborByShort(address),
-        OptionalIeee::Ieee(x) => return LeavingDevice::NeighborByIeee(x),
+    match source.ieee {
+        Some(ieee) => LeavingDevice::NeighborByIeee(ieee),
+        None => LeavingDevice::NeighborByShort(source.address),
     }
 }
 
-fn neighbor_left(mut nlme: Nlme, parent: Neighbor, source: Source, rejoin: bool) -> Nlme
+#[tactic(auto, unfolding(crate::specs::Received::neighbor_left))]
+fn neighbor_left(mut nlme: Nlme, parent: Option<NwkNeighbor>, source: Source, rejoin: bool) -> Nlme
     ensures { result ≡ neighbor_left parent source rejoin nlme }
 {
     if is_from_parent(parent, source.address) {
-        nlme.nib.extended_panid.0 = 0;
+        nlme.nib.extended_panid = ExtendedPanId(0);
         return indicate_leave(nlme, LeavingDevice::ThisDevice, rejoin);
     }
     indicate_leave(nlme, neighbor_leaving(source), rejoin)
 }
 
 // Whether a leave request is accepted.
+#[tactic(auto, unfolding(crate::specs::Received::accepts_leave))]
 pub fn accepts_leave_request(nib: Nib, destination: ShortAddress, from_parent: bool) -> bool
     ensures { result ≡ accepts_leave nib destination from_parent }
 {
-    if nib.network_address.0 == nib::NWK_COORDINATOR_ADDRESS {
-        return false;
+    if nib.network_address.0 == nib::NWK_COORDINATOR_ADDRESS
+        || nib::NWK_BROADCAST_ADDRESS_MIN <= destination.0
+    {
+        false
+    } else if nib.capability_information.device_type() {
+        nib.leave_request_allowed
+    } else {
+        from_parent
     }
-    if nib::NWK_BROADCAST_ADDRESS_MIN <= destination.0 {
-        return false;
-    }
-    if nib.capability_information.device_type() {
-        return nib.leave_request_allowed;
-    }
-    from_parent
 }
 
 fn leave_to(
     nlme: Nlme,
     address: ShortAddress,
-    ieee: OptionalIeee,
+    ieee: Option<IeeeAddress>,
     rejoin: bool,
     remove_children: bool,
 ) -> Transmission
     ensures { result ≡ leave_to nlme address ieee rejoin remove_children }
 {
     let header = nlme.command_header(address, ieee, true);
-    let pan_id = nlme.nib.panid;
     let options = LeaveOptions {
         request: false,
         rejoin,
         remove_children,
     };
-    let frame = SentFrame::CommandFrame(header, SentCommand::Leave(options));
     Transmission {
-        pan_id,
+        pan_id: nlme.nib.panid,
         address,
-        frame,
+        frame: SentFrame::CommandFrame(header, SentCommand::Leave(options)),
     }
 }
 
+#[tactic(auto, unfolding(crate::specs::Received::announcement))]
 fn announce_leave(
     nlme: Nlme,
-    parent: Neighbor,
-    broadcast_ieee: OptionalIeee,
+    parent: Option<NwkNeighbor>,
+    broadcast_ieee: Option<IeeeAddress>,
     options: LeaveOptions,
 ) -> Transmission
     ensures { result ≡ announcement nlme parent broadcast_ieee options }
 {
     if nlme.nib.capability_information.device_type() {
         let all = ShortAddress(nib::NWK_BROADCAST_ALL);
-        return leave_to(
+        leave_to(
             nlme,
             all,
             broadcast_ieee,
             options.rejoin,
             options.remove_children,
-        );
+        )
+    } else {
+        let ieee = neighbor_table::known_ieee(parent);
+        leave_to(
+            nlme,
+            crate::parent_address(parent),
+            ieee,
+            options.rejoin,
+            false,
+        )
     }
-    leave_to(
-        nlme,
-        crate::parent_address(parent),
-        neighbor_table::known_ieee(parent),
-        options.rejoin,
-        false,
-    )
 }
 
 // A frame that is dealt with and leaves the table as it is.
@@ -226,15 +209,16 @@ fn over(nlme: Nlme, answer: PollAnswer) -> Handled
 {
     Handled {
         nlme,
-        change: TableChange::KeepTable,
+        removed: None,
         then: Then::Over(answer),
     }
 }
 
+#[tactic(auto, unfolding(crate::specs::Received::leave_requested))]
 fn handle_leave_request(
-    mut nlme: Nlme,
-    parent: Neighbor,
-    broadcast_ieee: OptionalIeee,
+    nlme: Nlme,
+    parent: Option<NwkNeighbor>,
+    broadcast_ieee: Option<IeeeAddress>,
     source: ShortAddress,
     destination: ShortAddress,
     options: LeaveOptions,
@@ -245,97 +229,102 @@ fn handle_leave_request(
     if !accepts_leave_request(nlme.nib, destination, from_parent) {
         return over(nlme, PollAnswer::PollNothing);
     }
-    let transmission = announce_leave(nlme, parent, broadcast_ieee, options);
-    nlme.nwk_seq = frame::next_nwk_seq(nlme.nwk_seq);
     let announcement = LeaveAnnouncement {
-        transmission,
+        transmission: announce_leave(nlme, parent, broadcast_ieee, options),
         rejoin: options.rejoin,
     };
     Handled {
-        nlme,
-        change: TableChange::KeepTable,
+        nlme: nlme.use_nwk_seq(),
+        removed: None,
         then: Then::Announce(announcement),
     }
 }
 
+#[tactic(auto, unfolding(crate::specs::Received::leave_handled))]
 fn handle_leave_command(
-    mut nlme: Nlme,
-    parent: Neighbor,
-    broadcast_ieee: OptionalIeee,
+    nlme: Nlme,
+    parent: Option<NwkNeighbor>,
+    broadcast_ieee: Option<IeeeAddress>,
     source: Source,
     destination: ShortAddress,
     options: LeaveOptions,
 ) -> Handled
     ensures { result ≡ leave_handled parent broadcast_ieee source destination options nlme }
 {
-    let address = source.address;
     if options.request {
-        return handle_leave_request(nlme, parent, broadcast_ieee, address, destination, options);
+        return handle_leave_request(
+            nlme,
+            parent,
+            broadcast_ieee,
+            source.address,
+            destination,
+            options,
+        );
     }
-    nlme = neighbor_left(nlme, parent, source, options.rejoin);
     Handled {
-        nlme,
-        change: TableChange::RemoveNeighbor(address),
+        nlme: neighbor_left(nlme, parent, source, options.rejoin),
+        removed: Some(source.address),
         then: Then::Over(PollAnswer::PollNothing),
     }
 }
 
 // What a received frame does, after it has taught its sender's address.
+#[tactic(auto, unfolding(crate::specs::Received::handled))]
 pub fn process_received_nwk_frame(
     nlme: Nlme,
-    parent: Neighbor,
-    broadcast_ieee: OptionalIeee,
+    parent: Option<NwkNeighbor>,
+    broadcast_ieee: Option<IeeeAddress>,
     frame: ReceivedFrame,
 ) -> Handled
     ensures { result ≡ handled parent broadcast_ieee frame nlme }
 {
     match frame {
-        ReceivedFrame::Undecodable => return over(nlme, PollAnswer::PollUndecodable),
-        ReceivedFrame::Data(_) => return over(nlme, PollAnswer::PollData),
+        ReceivedFrame::Undecodable => over(nlme, PollAnswer::PollUndecodable),
+        ReceivedFrame::Data(_) => over(nlme, PollAnswer::PollData),
         ReceivedFrame::RejoinResponseCommand(_, response) => {
-            return over(
+            over(
                 handle_rejoin_response(nlme, response),
                 PollAnswer::PollNothing,
-            );
+            )
         }
         ReceivedFrame::TimeoutResponseCommand(_, response) => {
-            return over(
+            over(
                 handle_timeout_response(nlme, response),
                 PollAnswer::PollNothing,
-            );
+            )
         }
         ReceivedFrame::LeaveCommand(source, destination, options) => {
-            return handle_leave_command(nlme, parent, broadcast_ieee, source, destination, options);
+            handle_leave_command(nlme, parent, broadcast_ieee, source, destination, options)
         }
-        ReceivedFrame::OtherCommand(_) => return over(nlme, PollAnswer::PollNothing),
-        ReceivedFrame::OtherFrame => return over(nlme, PollAnswer::PollNothing),
+        ReceivedFrame::OtherCommand(_) | ReceivedFrame::OtherFrame => over(
+            nlme,
+            PollAnswer::PollNothing,
+        ),
     }
 }
 
 // The attributes after an announced leave.
+#[tactic(auto, unfolding(crate::specs::Received::left_for))]
 fn leave_network(mut nib: Nib, rejoin: bool) -> Nib
     ensures { result ≡ left_for rejoin nib }
 {
-    if rejoin {
-        if nib.capability_information.device_type() {
-            return nib;
-        }
-        nib.extended_panid.0 = 0;
-        return nib;
+    if !rejoin {
+        nib.network_address = ShortAddress(nib::NWK_UNASSIGNED_ADDRESS);
+        nib.extended_panid = ExtendedPanId(0);
+        nib.panid = PanId(0xffff);
+        nib.update_id = 0;
+        nib.parent_information = 0;
+    } else if !nib.capability_information.device_type() {
+        nib.extended_panid = ExtendedPanId(0);
     }
-    nib.network_address.0 = nib::NWK_UNASSIGNED_ADDRESS;
-    nib.extended_panid.0 = 0;
-    nib.panid.0 = 0xffff;
-    nib.update_id = 0;
-    nib.parent_information = 0;
     nib
 }
 
 // After the announcement of this device's leave, sent or not. Without the rejoin bit the caller clears the table too.
+#[tactic(auto, unfolding(crate::specs::Received::leave_announced))]
 pub fn leave_announced(mut nlme: Nlme, rejoin: bool) -> Nlme
     ensures { result ≡ leave_announced rejoin nlme }
 {
-    let nib = leave_network(nlme.nib, rejoin);
-    nlme.nib = nib;
+    nlme.nib = leave_network(nlme.nib, rejoin);
     indicate_leave(nlme, LeavingDevice::ThisDevice, rejoin)
 }

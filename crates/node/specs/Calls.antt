@@ -1,8 +1,7 @@
 -- Every call on a state: what it answers, and the state that it leaves.
-use Rattle.std.specs.Prelude.{ℕ, Bool, true, false, cond, not, List, [], map, eqb, ltb}
+use Rattle.std.specs.Prelude.{Some, None, Result, Ok, Err, Option, ℕ, Bool, true, false, cond, not, List, [], map, eqb, ltb}
 use Rattle.nib.specs.Neighbors.{table_of}
 use Rattle.nib.specs.declared.CapabilityInformation.{CapabilityInformation}
-use Rattle.nib.specs.declared.Neighbor.{Neighbor}
 use Rattle.nib.specs.declared.ShortAddress.{ShortAddress}
 use Rattle.nib.specs.NeighborTable.{on_entries, retained}
 use Rattle.discovery.specs.Mlme.{descriptors_of}
@@ -19,7 +18,6 @@ use Rattle.management.specs.declared.frame.ReceivedFrame.{ReceivedFrame}
 use Rattle.nlme.specs.Nlme.{nlme_ticked}
 use Rattle.nlme.specs.declared.Nlme.{Nlme}
 use Rattle.nlme.specs.Received.{taught, handled, leave_announced}
-use Rattle.nlme.specs.declared.received.TableChange.{TableChange}
 use Rattle.nlme.specs.declared.received.Then.{Then}
 use Rattle.nlme.specs.declared.received.Handled.{Handled}
 use Rattle.operation.specs.Operation.{with_nlme, scan_for, association_for, transmission_for, reception_for, is_discovered, telling, asking, announcing_leave, ending}
@@ -33,19 +31,22 @@ use Rattle.operation.specs.declared.RadioRequest.{RadioRequest}
 use Rattle.operation.specs.declared.Step.{Step}
 use Rattle.operation.specs.declared.Decision.{Decision}
 use Rattle.join.specs.Join.{failing, join_started, associated}
-use Rattle.join.specs.declared.association.AssociationOutcome.{AssociationOutcome}
 use Rattle.join.specs.Rejoin.{rejoin_started, try_next, try_goes_on, request_sent}
 use Rattle.exchange.specs.Exchange.{send_started, data_sent, poll_started, receive_started, no_data, poll_over, timeout_started, timeout_goes_on, timeout_request_sent, tick_told, timeout_refreshed, leave_taken, status_taken}
 use Rattle.node.specs.declared.State.{State}
 use Rattle.node.specs.declared.Answer.{Answer}
-use Rattle.node.specs.declared.ScanOutcome.{ScanOutcome}
 use Rattle.node.specs.declared.ScanAnswer.{ScanAnswer}
-use Rattle.node.specs.declared.ReceptionOutcome.{ReceptionOutcome}
-use Rattle.node.specs.declared.Choice.{Choice}
 use Rattle.node.specs.Looks.{with_control, with_table, with_candidates, entries, parent, tried, next, broadcast, finish, deciding}
 use Rattle.node.specs.Refusals.{refuse, bad, start, outcome}
 use Rattle.management.specs.declared.NlmeJoinStatus.{NlmeJoinStatus}
 use Rattle.neighbor_page.specs.Page.{too_short, written}
+use Rattle.nib.specs.declared.NwkNeighbor.{NwkNeighbor}
+use Rattle.discovery.specs.declared.mlme.MacError.{MacError}
+use Rattle.join.specs.declared.association.AssociationResponse.{AssociationResponse}
+use Rattle.discovery.specs.declared.mlme.PanDescriptorList.{PanDescriptorList}
+use Rattle.candidates.specs.declared.CandidateList.{CandidateList}
+use Rattle.operation.specs.declared.Refusal.{Refusal}
+use Rattle.operation.specs.declared.Refusal.TheVariants.{TooManyDescriptors, TooManyShortAddressed, BadState, ShortPage}
 
 -- Join and rejoin (01, "Join request and confirm"; Zigbee 3.2.2.13)
 
@@ -91,22 +92,22 @@ scan_heard ScanFor.Discovery s = deciding s (ending Step.Discovered s.control)
 scan_heard ScanFor.Rejoin s =
     rejoin_among (with_chosen false s.control.operation.extended_pan_id.0 s.control.nlme.nib.capability_information s)
 
--- "for a scan, 3 above 27 descriptors, then 4 above 16 short-addressed ones" (01, "When a call is turned down"); of a failed one no list is looked at
-unfoldable pub scan_over : ScanOutcome → ScanFor → State → Answer
-scan_over o u s =
-    cond o.failed (scan_failed u s)
-    (cond (ltb 27 o.list.count) (refuse 3 s)
-    (cond (ltb 16 (short_addressed (descriptors_of o.list))) (refuse 4 s) (scan_heard u (with_scan (descriptors_of o.list) s))))
+-- "for a scan, 3 above 27 descriptors, then 4 above 16 short-addressed ones" (01, "When a call is turned down")
+unfoldable pub scan_over : Result PanDescriptorList MacError → ScanFor → State → Answer
+scan_over (Err e) u s = scan_failed u s
+scan_over (Ok l) u s =
+    cond (ltb 27 l.count) (refuse TooManyDescriptors s)
+    (cond (ltb 16 (short_addressed (descriptors_of l))) (refuse TooManyShortAddressed s) (scan_heard u (with_scan (descriptors_of l) s)))
 
 -- The outcome of an association (01, "Join request and confirm")
 
-abbrev pub association_over : AssociationOutcome → Unit {0} → State → Answer
+abbrev pub association_over : Result AssociationResponse MacError → Unit {0} → State → Answer
 association_over o u s = deciding s (associated o (tried s) (next s) s.control)
 
 -- The outcome of a poll or a receive (01, "Received frame"; Zigbee 3.6.6)
 
 -- what it was for goes on: a single poll or receive answers; a rejoin, a negotiation or a keepalive polls on
-unfoldable pub continuing : Purpose → PollAnswer → Neighbor → Neighbor → Control → Decision
+unfoldable pub continuing : Purpose → PollAnswer → Option NwkNeighbor → Option NwkNeighbor → Control → Decision
 continuing Purpose.RejoinResponse a parent next c = try_goes_on parent next c
 continuing Purpose.SinglePoll a parent next c = poll_over a c
 continuing Purpose.SingleReceive a parent next c = poll_over a c
@@ -119,9 +120,9 @@ abbrev pub with_node : Nlme → State → State
 with_node n s = with_control (with_nlme n s.control) s
 
 -- what a frame does to the table
-unfoldable pub table_changed : TableChange → State → State
-table_changed TableChange.KeepTable s = s
-table_changed (TableChange.RemoveNeighbor a) s = with_table (table_of (retained a.0 (entries s))) s
+unfoldable pub table_changed : Option ShortAddress → State → State
+table_changed None s = s
+table_changed (Some a) s = with_table (table_of (retained a.0 (entries s))) s
 
 -- a frame is dealt with: the poll goes on, or a leave is announced first
 unfoldable pub after : Purpose → Then → State → Answer
@@ -129,7 +130,7 @@ after u (Then.Over a) s = go_on false u a s
 after u (Then.Announce a) s = deciding s (announcing_leave u a s.control)
 
 abbrev pub handled_on : Purpose → Handled → State → Answer
-handled_on u h s = after u h.then (table_changed h.change (with_node h.nlme s))
+handled_on u h s = after u h.then (table_changed h.removed (with_node h.nlme s))
 
 abbrev pub taught_on : ReceivedFrame → State → State
 taught_on f s = with_table (on_entries (taught f) s.table) s
@@ -137,10 +138,10 @@ taught_on f s = with_table (on_entries (taught f) s.table) s
 abbrev pub processed : Purpose → ReceivedFrame → State → Answer
 processed u f s = handled_on u (handled (parent s) (broadcast s) f s.control.nlme) s
 
-unfoldable pub reception_over : ReceptionOutcome → Purpose → State → Answer
-reception_over ReceptionOutcome.NoData u s = go_on false u (no_data u) s
-reception_over ReceptionOutcome.ReceptionFailed u s = go_on false u PollAnswer.PollMacError s
-reception_over (ReceptionOutcome.Received f) u s = processed u f (taught_on f s)
+unfoldable pub reception_over : Result (Option ReceivedFrame) MacError → Purpose → State → Answer
+reception_over (Ok None) u s = go_on false u (no_data u) s
+reception_over (Err e) u s = go_on false u PollAnswer.PollMacError s
+reception_over (Ok (Some f)) u s = processed u f (taught_on f s)
 
 -- The outcome of a transmission (01, "Received frame", "Supervision record")
 
@@ -166,10 +167,10 @@ pub data Call : Type 0 where
   poll : Call
   receive : Call
   timeout : TimeoutFor → Call
-  scan : ScanOutcome → Call
-  association : AssociationOutcome → Call
+  scan : Result PanDescriptorList MacError → Call
+  association : Result AssociationResponse MacError → Call
   transmission : Bool → Call
-  reception : ReceptionOutcome → Call
+  reception : Result (Option ReceivedFrame) MacError → Call
   elapsed : ℕ → Call
   take_leave : Call
   take_status : Call
@@ -192,28 +193,28 @@ made s take_status = deciding s (status_taken s.control)
 
 -- what a call answers: 5 comes first; of a discovery without its confirm
 unfoldable pub answer : State → Call → Answer
-answer s c = cond (bad s) (refuse 5 s) (made s c)
+answer s c = cond (bad s) (refuse BadState s) (made s c)
 
--- the confirm of a discovery tells of every descriptor (Zigbee 3.2.2.4); with any other answer it is empty
-abbrev pub confirm_by : Step → List PanDescriptor → NlmeNetworkDiscoveryConfirm
-confirm_by st ds = cond (is_discovered st) (confirm_of (map network_descriptor_of ds)) (confirm_of [])
+-- the confirm of a discovery tells of every descriptor (Zigbee 3.2.2.4); there is none with any other answer
+abbrev pub confirm_by : Step → Result PanDescriptorList MacError → Option NlmeNetworkDiscoveryConfirm
+confirm_by st (Err e) = None
+confirm_by st (Ok l) = cond (is_discovered st) (Some (confirm_of (map network_descriptor_of (descriptors_of l)))) None
 
-unfoldable pub scanned : ScanOutcome → State → ScanAnswer
-scanned o s = record { answer = answer s (scan o); confirm = confirm_by (answer s (scan o)).step (descriptors_of o.list) }
+unfoldable pub scanned : Result PanDescriptorList MacError → State → ScanAnswer
+scanned o s = record { answer = answer s (scan o); confirm = confirm_by (answer s (scan o)).step o }
 
 -- the choice of candidates (01, "Candidate list"): "5 only"
-unfoldable pub choose : ℕ → Bool → Bool → State → Choice
+unfoldable pub choose : ℕ → Bool → Bool → State → Result CandidateList Refusal
 choose n router permit s =
-    cond (bad s) (record { refusal = 5; list = list_of [] })
-    (record { refusal = 0; list = list_of (candidates s.control.nlme.nib.stack_profile router permit n (entries s)) })
+    cond (bad s) (Err BadState) (Ok (list_of (candidates s.control.nlme.nib.stack_profile router permit n (entries s))))
 
 -- the parent's timer restarted (`refresh_parent_timeout` of the source): 5 only
 unfoldable pub refresh : State → Answer
-refresh s = cond (bad s) (refuse 5 s) (deciding s (timeout_refreshed s.control))
+refresh s = cond (bad s) (refuse BadState s) (deciding s (timeout_refreshed s.control))
 
 -- the neighbour page, written into a lent buffer of n bytes (02, L1): "6, a lent buffer shorter than 816 bytes, after 5"; the state stays
 unfoldable pub page_answer : ℕ → State → Answer
-page_answer n s = cond (bad s) (refuse 5 s) (cond (too_short n) (refuse 6 s) (deciding s (telling Step.PageWritten s.control)))
+page_answer n s = cond (bad s) (refuse BadState s) (cond (too_short n) (refuse ShortPage s) (deciding s (telling Step.PageWritten s.control)))
 
 -- what stands in the lent buffer b then; after a refusal all that stood there
 unfoldable pub page_left : List ℕ → State → List ℕ

@@ -3,3 +3,4 @@ pub mod Beginning
 pub mod Looks
 pub mod Refusals
 pub mod Calls
+pub mod Private

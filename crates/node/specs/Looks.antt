@@ -1,10 +1,8 @@
 -- What a call looks at in a state, what a decision writes to it, and the answer that is made of both.
-use Rattle.std.specs.Prelude.{Bool, false, cond, List, length}
+use Rattle.std.specs.Prelude.{Option, Bool, false, cond, List, length}
 use Rattle.nib.specs.Neighbors.{entries_of}
 use Rattle.nib.specs.declared.NwkNeighbor.{NwkNeighbor}
 use Rattle.nib.specs.declared.NeighborTable.{NeighborTable}
-use Rattle.nib.specs.declared.Neighbor.{Neighbor}
-use Rattle.nib.specs.declared.OptionalIeee.{OptionalIeee}
 use Rattle.nib.specs.NeighborTable.{ieee_of, on_entries}
 use Rattle.candidates.specs.Tries.{parent_in, tried_in, next_in, taking, adopted_next, joined_tried, potential_cleared_tried}
 use Rattle.candidates.specs.declared.tries.Candidates.{Candidates}
@@ -14,6 +12,7 @@ use Rattle.operation.specs.declared.Move.TheVariants.{Stay, TakeNext, AdoptNext,
 use Rattle.operation.specs.declared.Decision.{Decision}
 use Rattle.node.specs.declared.State.{State}
 use Rattle.node.specs.declared.Answer.{Answer}
+use Rattle.nib.specs.declared.IeeeAddress.{IeeeAddress}
 
 abbrev pub with_control : Control → State → State
 with_control c s = record { control = c; table = s.table; candidates = s.candidates }
@@ -28,16 +27,16 @@ abbrev pub entries : State → List NwkNeighbor
 entries s = entries_of s.table
 
 -- the parent, the candidate being tried, the next one, and the IEEE address known of the broadcast address
-abbrev pub parent : State → Neighbor
+abbrev pub parent : State → Option NwkNeighbor
 parent s = parent_in (entries s)
 
-abbrev pub tried : State → Neighbor
+abbrev pub tried : State → Option NwkNeighbor
 tried s = tried_in (entries s) s.candidates
 
-abbrev pub next : State → Neighbor
+abbrev pub next : State → Option NwkNeighbor
 next s = next_in (entries s) s.candidates
 
-abbrev pub broadcast : State → OptionalIeee
+abbrev pub broadcast : State → Option IeeeAddress
 broadcast s = ieee_of 0xffff (entries s)
 
 -- what a decision does with the candidates (01, "Join request and confirm")

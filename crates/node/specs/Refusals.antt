@@ -1,22 +1,23 @@
 -- When a call is turned down (01, "When a call is turned down"). "State and lent buffers then stay as handed in."
-use Rattle.std.specs.Prelude.{ℕ, Bool, false, cond, ◌||◌, ltb}
+use Rattle.std.specs.Prelude.{Option, Some, None, ℕ, Bool, false, cond, ◌||◌, ltb}
 use Rattle.candidates.specs.Tries.{past_table}
 use Rattle.candidates.specs.declared.tries.Candidates.{Candidates}
-use Rattle.operation.specs.Operation.{For, awaited, unawaited, is_idle, association_for}
+use Rattle.operation.specs.Operation.{is_idle, association_for}
 use Rattle.operation.specs.declared.Operation.{Operation}
-use Rattle.operation.specs.declared.Note.TheVariants.{NoNote}
 use Rattle.operation.specs.declared.Step.TheVariants.{Refused}
 use Rattle.node.specs.declared.State.{State}
 use Rattle.node.specs.declared.Answer.{Answer}
+use Rattle.operation.specs.declared.Refusal.{Refusal}
+use Rattle.operation.specs.declared.Refusal.TheVariants.{OperationUnderWay, NotAwaited}
 
--- the refusal with a number: the state is the one handed in, and nothing else is said
-unfoldable pub refuse : ℕ → State → Answer
-refuse k s = record { state = s; reset = false; note = NoNote; step = Refused k; polls_used = 0 }
+-- a refusal: the state is the one handed in, and nothing else is said
+unfoldable pub refuse : Refusal → State → Answer
+refuse k s = record { state = s; reset = false; note = None; step = Refused k; polls_used = 0 }
 
 -- "an index being tried or still to be tried in an association is not below the neighbour count"
-abbrev pub past_in : For (Unit {0}) → ℕ → Candidates → Bool
-past_in (awaited u) n c = past_table n c
-past_in unawaited n c = false
+abbrev pub past_in : Option (Unit {0}) → ℕ → Candidates → Bool
+past_in (Some u) n c = past_table n c
+past_in None n c = false
 
 -- 5: "a count in the state is above 16, polls left above 20, or an index .."
 abbrev pub bad_by : ℕ → ℕ → Candidates → Operation → Bool
@@ -33,9 +34,9 @@ bad s = bad_by s.table.count s.control.nlme.transmit_failures.count s.candidates
 
 -- a start: "1 if an operation is under way"
 abbrev pub start : Answer → State → Answer
-start a s = cond (is_idle s.control.operation.phase) a (refuse 1 s)
+start a s = cond (is_idle s.control.operation.phase) a (refuse OperationUnderWay s)
 
 -- an outcome: "2 if no request awaits that kind"
-unfoldable pub outcome : {A : Type 0} → For A → (A → State → Answer) → State → Answer
-outcome (awaited u) f s = f u s
-outcome unawaited f s = refuse 2 s
+unfoldable pub outcome : {A : Type 0} → Option A → (A → State → Answer) → State → Answer
+outcome (Some u) f s = f u s
+outcome None f s = refuse NotAwaited s

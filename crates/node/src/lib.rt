@@ -14,38 +14,39 @@
 // 2, 3, 4, 6 is given.
 #![tactic(auto)]
 
-ghost use Rattle.std.specs.Prelude.{◌≡◌, false, cond, not, length};
+ghost use Rattle.std.specs.Prelude.{◌≡◌, MatchOption, false, not, length};
 ghost use Rattle.supervision.specs.Keepalive.{keepalive_interval_ms, keepalive_method, negotiated_poll_interval_ms};
-ghost use Rattle.operation.specs.Operation.{is_idle, association_for, telling, ending};
+ghost use Rattle.operation.specs.Operation.{association_for, telling, ending};
 ghost use Rattle.join.specs.Join.{failing};
 ghost use Rattle.join.specs.Rejoin.{request_sent};
 ghost use Rattle.exchange.specs.Exchange.{data_sent, timeout_request_sent};
 ghost use Rattle.node.specs.Beginning.{new_state};
 ghost use Rattle.node.specs.Looks.{parent, tried, next, deciding};
 ghost use Rattle.node.specs.Refusals.{refuse, past_in, bad_by, bad};
-ghost use Rattle.node.specs.Calls.{join_by, associate, with_chosen, rejoin_among, scan_failed, scan_heard, scan_over, confirm_by, scanned, continuing, go_on, table_changed, after, handled_on, taught_on, processed, after_leave, transmission_over, answer, choose, refresh, page_answer, page_left, discovery, join, send, poll, receive, timeout, scan, association, transmission, reception, elapsed, take_leave, take_status};
-ghost use Rattle.discovery.specs.Mlme.{descriptors_of};
+ghost use Rattle.node.specs.Private.{refusal, start_refusal};
+ghost use Rattle.node.specs.Calls.{join_by, associate, with_chosen, rejoin_among, scan_failed, scan_heard, scan_over, confirm_by, scanned, continuing, go_on, table_changed, after, handled_on, taught_on, processed, after_leave, reception_over, transmission_over, answer, choose, refresh, page_answer, page_left, discovery, join, send, poll, receive, timeout, scan, association, transmission, reception, elapsed, take_leave, take_status};
 
 use candidates::tries::Candidates;
 use candidates::{CandidateList, tries};
 use discovery::NlmeNetworkDiscoveryConfirm;
-use discovery::mlme::{MAX_PAN_DESCRIPTOR_SIZE, PanDescriptorList};
+use discovery::mlme::{MAX_PAN_DESCRIPTOR_SIZE, MacError, PanDescriptorList};
 use exchange::negotiation;
-use join::association::AssociationOutcome;
+use join::association::AssociationResponse;
 use join::rejoin::REJOIN_RESPONSE_POLL_RETRIES;
 use join::{association, rejoin};
 use management::frame::ReceivedFrame;
 use management::{NlmeJoinRequest, NlmeJoinStatus, PollAnswer, RejoinNetwork, ScanRange};
 use nib::{
-    ExtendedPanId, MAX_NEIGBOUR_TABLE, Neighbor, NeighborTable, Nib, ShortAddress, neighbor_table,
+    ExtendedPanId, MAX_NEIGBOUR_TABLE, NeighborTable, Nib, NwkNeighbor, ShortAddress,
+    neighbor_table,
 };
-use nlme::received::{Handled, TableChange, Then};
+use nlme::received::{Handled, Then};
 use nlme::{Nlme, received};
 use operation::{
-    Control, Decision, Leaving, Move, Note, Operation, Phase, Purpose, ScanFor, Step, TimeoutFor,
-    TransmissionFor,
+    Control, Decision, Leaving, Move, Note, Operation, Phase, Purpose, Refusal, ScanFor, Step,
+    TimeoutFor, TransmissionFor,
 };
-use supervision::{KeepaliveMethod, OptionalPeriod};
+use supervision::KeepaliveMethod;
 
 // How many short-addressed descriptors a scan has at most: each of them gives an entry of the table.
 const MAX_SHORT_ADDRESSED: usize = MAX_NEIGBOUR_TABLE as usize;
@@ -70,40 +71,18 @@ pub struct Answer {
     // frame")
     pub reset: bool,
     // what the radio is told first, without an outcome
-    pub note: Note,
+    pub note: Option<Note>,
     // the request to the radio, the confirm or answer that ends the operation, or the refusal
     pub step: Step,
     // 1 where the step is a poll, else 0
     pub polls_used: u8,
 }
 
-// The outcome of a scan. A failed one has no list: what stands there is not looked at.
-#[derive(Clone, Copy)]
-pub struct ScanOutcome {
-    pub failed: bool,
-    pub list: PanDescriptorList,
-}
-
-// The answer to the outcome of a scan, with the confirm of a discovery, which is empty for any other.
+// The answer to the outcome of a scan, with the confirm where a discovery has heard.
 #[derive(Clone, Copy)]
 pub struct ScanAnswer {
     pub answer: Answer,
-    pub confirm: NlmeNetworkDiscoveryConfirm,
-}
-
-// The outcome of a poll or a receive.
-#[derive(Clone, Copy)]
-pub enum ReceptionOutcome {
-    NoData,
-    ReceptionFailed,
-    Received(ReceivedFrame),
-}
-
-// The answer to a choice of candidates: refusal 0 for none.
-#[derive(Clone, Copy)]
-pub struct Choice {
-    pub refusal: u8,
-    pub list: CandidateList,
+    pub confirm: Option<NlmeNetworkDiscoveryConfirm>,
 }
 
 // Whether an index being tried or still to be tried in an association is not below the neighbour count.
@@ -111,11 +90,8 @@ fn is_past(phase: Phase, neighbors: u8, candidates: Candidates) -> bool
     ensures { result ≡ past_in (association_for phase) neighbors candidates }
 {
     match phase {
-        Phase::Idle => return false,
-        Phase::Scan(_) => return false,
-        Phase::Association => return tries::past_table(neighbors, candidates),
-        Phase::Transmission(_) => return false,
-        Phase::Reception(_) => return false,
+        Phase::Association => tries::past_table(neighbors, candidates),
+        Phase::Idle | Phase::Scan(_) | Phase::Transmission(_) | Phase::Reception(_) => false,
     }
 }
 
@@ -123,23 +99,12 @@ fn is_past(phase: Phase, neighbors: u8, candidates: Candidates) -> bool
 fn is_bad_by(neighbors: u8, failures: u8, candidates: Candidates, operation: Operation) -> bool
     ensures { result ≡ bad_by neighbors failures candidates operation }
 {
-    if MAX_NEIGBOUR_TABLE < neighbors {
-        return true;
-    }
-    if MAX_NEIGBOUR_TABLE < failures {
-        return true;
-    }
-    if MAX_NEIGBOUR_TABLE < candidates.list.count {
-        return true;
-    }
-    if MAX_NEIGBOUR_TABLE < candidates.taken {
-        return true;
-    }
-    if REJOIN_RESPONSE_POLL_RETRIES < operation.polls_left {
-        return true;
-    }
-    let phase = operation.phase;
-    is_past(phase, neighbors, candidates)
+    MAX_NEIGBOUR_TABLE < neighbors
+        || MAX_NEIGBOUR_TABLE < failures
+        || MAX_NEIGBOUR_TABLE < candidates.list.count
+        || MAX_NEIGBOUR_TABLE < candidates.taken
+        || REJOIN_RESPONSE_POLL_RETRIES < operation.polls_left
+        || is_past(operation.phase, neighbors, candidates)
 }
 
 // The beginning.
@@ -147,6 +112,7 @@ impl State {
     // A node before its first call: no neighbours, no operation under way. `Nib::new` gives a blank information base. Whoever kept the attributes over a restart
     // hands those in, and puts the neighbour table that he kept back into `table`: without it the node has no parent. The sequence number is the last one used;
     // a node that has none draws it at random.
+    #[tactic(auto, unfolding(crate::specs::Beginning::new_state))]
     pub fn new(nib: Nib, nwk_seq: u8) -> State
         ensures { result ≡ new_state nib nwk_seq }
     {
@@ -163,19 +129,21 @@ impl State {
 
 // When a call is turned down.
 impl State {
-    fn refuse(self, refusal: u8) -> Answer
+    #[tactic(auto, unfolding(crate::specs::Refusals::refuse))]
+    fn refuse(self, refusal: Refusal) -> Answer
         ensures { result ≡ refuse refusal self }
     {
         let step = Step::Refused(refusal);
         Answer {
             state: self,
             reset: false,
-            note: Note::NoNote,
+            note: None,
             step,
             polls_used: 0,
         }
     }
 
+    #[tactic(auto, unfolding(crate::specs::Refusals::bad))]
     fn is_bad(self) -> bool
         ensures { result ≡ bad self }
     {
@@ -187,39 +155,61 @@ impl State {
         )
     }
 
-    // The refusal of a start, 0 for none: 5, then 1 if an operation is under way.
-    fn start_refusal(self) -> u8
-        ensures { result ≡ cond (bad self) 5 (cond (is_idle self.control.operation.phase) 0 1) }
+    // The refusal of a call that may come at any time: 5, or none.
+    fn refusal(self) -> Option<Refusal>
+        ensures { result ≡ refusal self }
     {
         if self.is_bad() {
-            return 5;
+            return Some(Refusal::BadState);
         }
-        let operation = self.control.operation;
-        let phase = operation.phase;
-        if operation::is_idle(phase) {
-            return 0;
+        None
+    }
+
+    // The refusal of a start: 5, then 1 if an operation is under way, or none.
+    fn start_refusal(self) -> Option<Refusal>
+        ensures { result ≡ start_refusal self }
+    {
+        if self.is_bad() {
+            return Some(Refusal::BadState);
         }
-        1
+        if operation::is_idle(self.control.operation.phase) {
+            return None;
+        }
+        Some(Refusal::OperationUnderWay)
+    }
+
+    // A call's refusal, where it has one, or else the answer that is made.
+    fn unless<F: FnOnce() -> Answer>(self, refusal: Option<Refusal>, make: F) -> Answer
+        requires { F.IsAlwaysCallable make }
+        ensures { MatchOption refusal (F.post make result) (λ k. result ≡ refuse k self) }
+    {
+        match refusal {
+            Some(refusal) => self.refuse(refusal),
+            None => make(),
+        }
     }
 }
 
 // What a call looks at: the parent, the candidate being tried and the next one, each by its index in the table.
 impl State {
-    fn parent(self) -> Neighbor
+    #[tactic(auto, unfolding(candidates::specs::Tries::parent_in, nib::specs::NeighborTable::parent_of))]
+    fn parent(self) -> Option<NwkNeighbor>
         ensures { result ≡ parent self }
     {
         let index = neighbor_table::parent_index(self.table);
         neighbor_table::seen_at(self.table, index)
     }
 
-    fn tried(self) -> Neighbor
+    #[tactic(auto, unfolding(candidates::specs::Tries::tried_in))]
+    fn tried(self) -> Option<NwkNeighbor>
         ensures { result ≡ tried self }
     {
         let index = tries::tried_index(self.table.len(), self.candidates);
         neighbor_table::seen_at(self.table, index)
     }
 
-    fn next(self) -> Neighbor
+    #[tactic(auto, unfolding(candidates::specs::Tries::next_in))]
+    fn next(self) -> Option<NwkNeighbor>
         ensures { result ≡ next self }
     {
         let index = tries::next_index(self.table.len(), self.candidates);
@@ -238,8 +228,7 @@ impl State {
             let index = tries::tried_index(count, self.candidates);
             self.table = neighbor_table::clear_potential_parent(self.table, index);
         }
-        let candidate = decision.candidate;
-        match candidate {
+        match decision.candidate {
             Move::Stay => {}
             Move::TakeNext => {
                 self.candidates = tries::take_next(count, self.candidates);
@@ -255,15 +244,12 @@ impl State {
                 self.table = neighbor_table::clear_beacon_fields(self.table);
             }
         }
-        let control = decision.control;
-        self.control = control;
-        let note = decision.note;
-        let step = decision.step;
+        self.control = decision.control;
         Answer {
             state: self,
             reset: false,
-            note,
-            step,
+            note: decision.note,
+            step: decision.step,
             polls_used: decision.polls_used,
         }
     }
@@ -275,11 +261,9 @@ impl State {
     pub fn start_discovery(self, range: ScanRange) -> Answer
         ensures { result ≡ answer self (discovery range) }
     {
-        let refusal = self.start_refusal();
-        if refusal != 0 {
-            return self.refuse(refusal);
-        }
-        self.decided_on(operation::scan(self.control, ScanFor::Discovery, range))
+        self.unless(self.start_refusal(), || {
+            self.decided_on(operation::scan(self.control, ScanFor::Discovery, range))
+        })
     }
 
     // A join or rejoin ends without success.
@@ -290,6 +274,7 @@ impl State {
     }
 
     // An association: the candidates are chosen from the present table, and the first is tried.
+    #[tactic(auto, unfolding(crate::specs::Calls::associate, crate::specs::Calls::with_chosen))]
     fn associate(mut self, request: NlmeJoinRequest) -> Answer
         ensures { result ≡ associate request self }
     {
@@ -309,19 +294,17 @@ impl State {
         self.decided_on(decision)
     }
 
+    #[tactic(auto, unfolding(crate::specs::Calls::join_by))]
     fn join_by(self, request: NlmeJoinRequest) -> Answer
         ensures { result ≡ join_by request.rejoin_network request self }
     {
-        let kind = request.rejoin_network;
-        match kind {
-            RejoinNetwork::Association => return self.associate(request),
+        match request.rejoin_network {
+            RejoinNetwork::Association => self.associate(request),
             RejoinNetwork::NwkRejoin => {
-                let parent = self.parent();
-                let decision = rejoin::start_rejoin(self.control, request, parent);
-                return self.decided_on(decision);
+                self.decided_on(rejoin::start_rejoin(self.control, request, self.parent()))
             }
-            RejoinNetwork::Orphan => return self.fail_join(NlmeJoinStatus::InvalidRequest),
-            RejoinNetwork::ChannelChange => return self.fail_join(NlmeJoinStatus::InvalidRequest),
+            RejoinNetwork::Orphan => self.fail_join(NlmeJoinStatus::InvalidRequest),
+            RejoinNetwork::ChannelChange => self.fail_join(NlmeJoinStatus::InvalidRequest),
         }
     }
 
@@ -331,60 +314,45 @@ impl State {
     pub fn join(self, request: NlmeJoinRequest) -> Answer
         ensures { result ≡ answer self (join request) }
     {
-        let refusal = self.start_refusal();
-        if refusal != 0 {
-            return self.refuse(refusal);
-        }
-        self.join_by(request)
+        self.unless(self.start_refusal(), || self.join_by(request))
     }
 
     // Starts the send of a data frame by way of the parent: `Ask(Transmit)` with its header, then `Sent`. With no parent it is `Sent(SendNotJoined)` at once.
     pub fn send_data(self, destination: ShortAddress, secure: bool) -> Answer
         ensures { result ≡ answer self (send destination secure) }
     {
-        let refusal = self.start_refusal();
-        if refusal != 0 {
-            return self.refuse(refusal);
-        }
-        let parent = self.parent();
-        let decision = exchange::start_send(self.control, destination, secure, parent);
-        self.decided_on(decision)
+        self.unless(self.start_refusal(), || {
+            let parent = self.parent();
+            self.decided_on(exchange::start_send(self.control, destination, secure, parent))
+        })
     }
 
     // Polls the parent once: `Ask(Poll)`, then `Polled`. With no parent it is `Polled(PollNotJoined)` at once.
     pub fn poll(self) -> Answer
         ensures { result ≡ answer self poll }
     {
-        let refusal = self.start_refusal();
-        if refusal != 0 {
-            return self.refuse(refusal);
-        }
-        let parent = self.parent();
-        self.decided_on(exchange::start_poll(self.control, parent))
+        self.unless(self.start_refusal(), || {
+            self.decided_on(exchange::start_poll(self.control, self.parent()))
+        })
     }
 
     // Receives one frame without a poll: `Ask(Receive)`, then `Polled`.
     pub fn receive(self) -> Answer
         ensures { result ≡ answer self receive }
     {
-        let refusal = self.start_refusal();
-        if refusal != 0 {
-            return self.refuse(refusal);
-        }
-        self.decided_on(exchange::start_receive(self.control))
+        self.unless(self.start_refusal(), || {
+            self.decided_on(exchange::start_receive(self.control))
+        })
     }
 
     // The start of a negotiation or a keepalive.
     fn start_timeout(self, purpose: TimeoutFor) -> Answer
         ensures { result ≡ answer self (timeout purpose) }
     {
-        let refusal = self.start_refusal();
-        if refusal != 0 {
-            return self.refuse(refusal);
-        }
-        let parent = self.parent();
-        let decision = negotiation::start_timeout_request(self.control, purpose, parent);
-        self.decided_on(decision)
+        self.unless(self.start_refusal(), || {
+            let parent = self.parent();
+            self.decided_on(negotiation::start_timeout_request(self.control, purpose, parent))
+        })
     }
 
     // Asks the parent for the timeout that the attributes name: `Ask(Transmit)`, at most 3 times `Ask(Poll)`, then `NegotiationOver`.
@@ -411,6 +379,7 @@ impl State {
     }
 
     // A rejoin goes on to its candidates.
+    #[tactic(auto, unfolding(crate::specs::Calls::with_chosen))]
     fn try_candidates(mut self) -> Answer
         ensures { result ≡ rejoin_among (with_chosen false self.control.operation.extended_pan_id.0 self.control.nlme.nib.capability_information self) }
     {
@@ -426,92 +395,98 @@ impl State {
         self.decided_on(rejoin::try_next(self.control, NlmeJoinStatus::NotPermitted, next))
     }
 
+    #[tactic(auto, unfolding(crate::specs::Calls::scan_failed))]
     fn scan_failed(self, purpose: ScanFor) -> Answer
         ensures { result ≡ scan_failed purpose self }
     {
         match purpose {
-            ScanFor::Discovery => return self.end_discovery(Step::DiscoveryFailed),
-            ScanFor::Rejoin => return self.fail_join(NlmeJoinStatus::MacError),
+            ScanFor::Discovery => self.end_discovery(Step::DiscoveryFailed),
+            ScanFor::Rejoin => self.fail_join(NlmeJoinStatus::MacError),
         }
     }
 
     // The table is made from the scan: a discovery ends, a rejoin goes on to its candidates.
+    #[tactic(auto, unfolding(crate::specs::Calls::scan_heard))]
     fn scan_heard(self, purpose: ScanFor) -> Answer
         ensures { result ≡ scan_heard purpose self }
     {
         match purpose {
-            ScanFor::Discovery => return self.end_discovery(Step::Discovered),
-            ScanFor::Rejoin => return self.try_candidates(),
+            ScanFor::Discovery => self.end_discovery(Step::Discovered),
+            ScanFor::Rejoin => self.try_candidates(),
         }
     }
 
-    // Of a scan that has failed no list is looked at; a list that is too long is turned down.
-    fn scan_listed(mut self, purpose: ScanFor, outcome: ScanOutcome) -> Answer
+    // A scan that has failed, or its list; one that is too long is turned down.
+    #[tactic(auto, unfolding(crate::specs::Calls::scan_over))]
+    fn scan_listed(
+        mut self,
+        purpose: ScanFor,
+        outcome: Result<PanDescriptorList, MacError>,
+    ) -> Answer
         ensures { result ≡ scan_over outcome purpose self }
     {
-        if outcome.failed {
+        let Ok(list) = outcome else {
             return self.scan_failed(purpose);
-        }
-        let list = outcome.list;
+        };
         if MAX_PAN_DESCRIPTOR_SIZE < list.count {
-            return self.refuse(3);
+            return self.refuse(Refusal::TooManyDescriptors);
         }
         if MAX_SHORT_ADDRESSED < discovery::short_addressed(list) {
-            return self.refuse(4);
+            return self.refuse(Refusal::TooManyShortAddressed);
         }
         self.table = discovery::neighbor_table_from(list);
         self.scan_heard(purpose)
     }
 
-    fn scan_answer(self, outcome: ScanOutcome) -> Answer
+    fn scan_answer(self, outcome: Result<PanDescriptorList, MacError>) -> Answer
         ensures { result ≡ answer self (scan outcome) }
     {
         if self.is_bad() {
-            return self.refuse(5);
+            return self.refuse(Refusal::BadState);
         }
-        let operation = self.control.operation;
-        let phase = operation.phase;
-        let Phase::Scan(purpose) = phase else {
-            return self.refuse(2);
+        let Phase::Scan(purpose) = self.control.operation.phase else {
+            return self.refuse(Refusal::NotAwaited);
         };
         self.scan_listed(purpose, outcome)
     }
 
     // The outcome of a scan: a discovery is over, a rejoin goes on. Above 27 descriptors it is turned down by 3, above 16 short-addressed ones by 4; then the
     // radio's outcome is still awaited.
-    pub fn scan_over(self, outcome: ScanOutcome) -> ScanAnswer
+    #[tactic(auto, unfolding(crate::specs::Calls::scanned))]
+    pub fn scan_over(self, outcome: Result<PanDescriptorList, MacError>) -> ScanAnswer
         ensures { result ≡ scanned outcome self }
     {
         let answer = self.scan_answer(outcome);
-        let step = answer.step;
-        let confirm = confirm_by(step, outcome.list);
+        let confirm = confirm_by(answer.step, outcome);
         ScanAnswer { answer, confirm }
     }
 }
 
-// The confirm of a discovery that has heard; with any other answer it is empty.
-fn confirm_by(step: Step, list: PanDescriptorList) -> NlmeNetworkDiscoveryConfirm
-    ensures { result ≡ confirm_by step (descriptors_of list) }
+// The confirm of a discovery that has heard; there is none with any other answer.
+fn confirm_by(
+    step: Step,
+    outcome: Result<PanDescriptorList, MacError>,
+) -> Option<NlmeNetworkDiscoveryConfirm>
+    ensures { result ≡ confirm_by step outcome }
 {
-    if operation::is_discovered(step) {
-        return discovery::network_descriptors(list);
+    let list = outcome.ok()?;
+    if !operation::is_discovered(step) {
+        return None;
     }
-    discovery::no_networks()
+    Some(discovery::network_descriptors(list))
 }
 
 // The outcomes of an association, and of a poll or a receive.
 impl State {
     // The outcome of an association: `Joined`, or the next candidate is asked.
-    pub fn association_over(self, outcome: AssociationOutcome) -> Answer
+    pub fn association_over(self, outcome: Result<AssociationResponse, MacError>) -> Answer
         ensures { result ≡ answer self (association outcome) }
     {
         if self.is_bad() {
-            return self.refuse(5);
+            return self.refuse(Refusal::BadState);
         }
-        let operation = self.control.operation;
-        let phase = operation.phase;
-        let Phase::Association = phase else {
-            return self.refuse(2);
+        let Phase::Association = self.control.operation.phase else {
+            return self.refuse(Refusal::NotAwaited);
         };
         let tried = self.tried();
         let next = self.next();
@@ -529,27 +504,26 @@ impl State {
         self.decided_on(decision)
     }
 
-    // What a frame does to the table.
-    fn change_table(mut self, change: TableChange) -> State
-        ensures { result ≡ table_changed change self }
+    // The table without the neighbour that a frame removes.
+    #[tactic(auto, unfolding(crate::specs::Calls::table_changed))]
+    fn change_table(mut self, removed: Option<ShortAddress>) -> State
+        ensures { result ≡ table_changed removed self }
     {
-        match change {
-            TableChange::KeepTable => return self,
-            TableChange::RemoveNeighbor(address) => {
-                self.table = neighbor_table::retain(self.table, address);
-                return self;
-            }
+        if let Some(address) = removed {
+            self.table = neighbor_table::retain(self.table, address);
         }
+        self
     }
 
     // A frame is dealt with: the poll goes on, or a leave is announced first.
+    #[tactic(auto, unfolding(crate::specs::Calls::after))]
     fn after(self, purpose: Purpose, then: Then) -> Answer
         ensures { result ≡ after purpose then self }
     {
         match then {
-            Then::Over(answer) => return self.go_on(purpose, answer),
+            Then::Over(answer) => self.go_on(purpose, answer),
             Then::Announce(announcement) => {
-                return self.decided_on(operation::announce(self.control, purpose, announcement));
+                self.decided_on(operation::announce(self.control, purpose, announcement))
             }
         }
     }
@@ -558,9 +532,8 @@ impl State {
         ensures { result ≡ handled_on purpose handled self }
     {
         self.control = operation::with_nlme(self.control, handled.nlme);
-        let change = handled.change;
-        let then = handled.then;
-        self.change_table(change).after(purpose, then)
+        self.change_table(handled.removed)
+            .after(purpose, handled.then)
     }
 
     // A frame is dealt with once it has taught the table.
@@ -580,71 +553,78 @@ impl State {
         self.deal_with(purpose, handled)
     }
 
+    // By what the poll or the receive has brought.
+    #[tactic(auto, unfolding(crate::specs::Calls::reception_over))]
+    fn decide_reception(
+        self,
+        purpose: Purpose,
+        outcome: Result<Option<ReceivedFrame>, MacError>,
+    ) -> Answer
+        ensures { result ≡ reception_over outcome purpose self }
+    {
+        match outcome {
+            Ok(None) => self.go_on(purpose, exchange::no_data(purpose)),
+            Ok(Some(frame)) => self.frame_received(purpose, frame),
+            Err(MacError) => self.go_on(purpose, PollAnswer::PollMacError),
+        }
+    }
+
     // The outcome of a poll or a receive, with the frame that it brought. What it was for goes on; an accepted leave request is announced first
     // (`Ask(Transmit)`).
-    pub fn reception_over(self, outcome: ReceptionOutcome) -> Answer
+    pub fn reception_over(self, outcome: Result<Option<ReceivedFrame>, MacError>) -> Answer
         ensures { result ≡ answer self (reception outcome) }
     {
         if self.is_bad() {
-            return self.refuse(5);
+            return self.refuse(Refusal::BadState);
         }
-        let operation = self.control.operation;
-        let phase = operation.phase;
-        let Phase::Reception(purpose) = phase else {
-            return self.refuse(2);
+        let Phase::Reception(purpose) = self.control.operation.phase else {
+            return self.refuse(Refusal::NotAwaited);
         };
-        match outcome {
-            ReceptionOutcome::NoData => return self.go_on(purpose, exchange::no_data(purpose)),
-            ReceptionOutcome::ReceptionFailed => {
-                return self.go_on(purpose, PollAnswer::PollMacError);
-            }
-            ReceptionOutcome::Received(frame) => return self.frame_received(purpose, frame),
-        }
+        self.decide_reception(purpose, outcome)
     }
 }
 
 // What a poll or a receive was for goes on: a single one answers; a rejoin, a negotiation or a keepalive polls on.
+#[tactic(auto, unfolding(crate::specs::Calls::continuing))]
 fn continuing(
     control: Control,
     purpose: Purpose,
     answer: PollAnswer,
-    parent: Neighbor,
-    next: Neighbor,
+    parent: Option<NwkNeighbor>,
+    next: Option<NwkNeighbor>,
 ) -> Decision
     ensures { result ≡ continuing purpose answer parent next control }
 {
     match purpose {
-        Purpose::RejoinResponse => return rejoin::try_goes_on(control, parent, next),
-        Purpose::SinglePoll => return exchange::end_poll(control, answer),
-        Purpose::SingleReceive => return exchange::end_poll(control, answer),
-        Purpose::TimeoutResponse(timeout) => {
-            return negotiation::timeout_goes_on(control, timeout, parent);
-        }
+        Purpose::RejoinResponse => rejoin::try_goes_on(control, parent, next),
+        Purpose::SinglePoll => exchange::end_poll(control, answer),
+        Purpose::SingleReceive => exchange::end_poll(control, answer),
+        Purpose::TimeoutResponse(timeout) => negotiation::timeout_goes_on(control, timeout, parent),
     }
 }
 
 // The outcome of a transmission.
 impl State {
     // After the announcement of a leave; without the rejoin bit the table is cleared.
+    #[tactic(auto, unfolding(crate::specs::Calls::after_leave))]
     fn after_leave(mut self, rejoin: bool) -> State
         ensures { result ≡ after_leave rejoin self }
     {
         let nlme = received::leave_announced(self.control.nlme, rejoin);
         self.control = operation::with_nlme(self.control, nlme);
-        if rejoin {
-            return self;
+        if !rejoin {
+            self.table = NeighborTable::new();
         }
-        self.table = NeighborTable::new();
         self
     }
 
     // A leave is announced: what the poll was for goes on.
+    #[tactic(auto, unfolding(crate::specs::Looks::finish))]
     fn finish_leave(self, leaving: Leaving) -> Answer
         ensures { result ≡ go_on (not leaving.rejoin) leaving.purpose PollAnswer.PollNothing (after_leave leaving.rejoin self) }
     {
-        let purpose = leaving.purpose;
         let after = self.after_leave(leaving.rejoin);
-        let mut answer = after.go_on(purpose, PollAnswer::PollNothing);
+        let mut answer = after.go_on(leaving.purpose, PollAnswer::PollNothing);
         answer.reset = !leaving.rejoin;
         answer
     }
@@ -672,16 +652,15 @@ impl State {
     }
 
     // By what the transmission was for.
+    #[tactic(auto, unfolding(crate::specs::Calls::transmission_over))]
     fn decide_transmission(self, purpose: TransmissionFor, sent: bool) -> Answer
         ensures { result ≡ transmission_over sent purpose self }
     {
         match purpose {
-            TransmissionFor::RejoinRequest => return self.after_rejoin_request(sent),
-            TransmissionFor::Data => return self.after_data(sent),
-            TransmissionFor::TimeoutRequest(timeout) => {
-                return self.after_timeout_request(timeout, sent);
-            }
-            TransmissionFor::Leave(leaving) => return self.finish_leave(leaving),
+            TransmissionFor::RejoinRequest => self.after_rejoin_request(sent),
+            TransmissionFor::Data => self.after_data(sent),
+            TransmissionFor::TimeoutRequest(timeout) => self.after_timeout_request(timeout, sent),
+            TransmissionFor::Leave(leaving) => self.finish_leave(leaving),
         }
     }
 
@@ -690,12 +669,10 @@ impl State {
         ensures { result ≡ answer self (transmission sent) }
     {
         if self.is_bad() {
-            return self.refuse(5);
+            return self.refuse(Refusal::BadState);
         }
-        let operation = self.control.operation;
-        let phase = operation.phase;
-        let Phase::Transmission(purpose) = phase else {
-            return self.refuse(2);
+        let Phase::Transmission(purpose) = self.control.operation.phase else {
+            return self.refuse(Refusal::NotAwaited);
         };
         self.decide_transmission(purpose, sent)
     }
@@ -708,11 +685,9 @@ impl State {
     pub fn tick_parent_timeout(self, elapsed_ms: u32) -> Answer
         ensures { result ≡ answer self (elapsed elapsed_ms) }
     {
-        if self.is_bad() {
-            return self.refuse(5);
-        }
-        let parent = self.parent();
-        self.decided_on(exchange::decide_tick(self.control, parent, elapsed_ms))
+        self.unless(self.refusal(), || {
+            self.decided_on(exchange::decide_tick(self.control, self.parent(), elapsed_ms))
+        })
     }
 
     // Restarts the parent's timer at the negotiated timeout: `Done`. For an owner who has other evidence that the parent still knows this device. Where no
@@ -720,54 +695,49 @@ impl State {
     pub fn refresh_parent_timeout(self) -> Answer
         ensures { result ≡ refresh self }
     {
-        if self.is_bad() {
-            return self.refuse(5);
-        }
-        self.decided_on(exchange::refresh_timeout(self.control))
+        self.unless(self.refusal(), || {
+            self.decided_on(exchange::refresh_timeout(self.control))
+        })
     }
 
     // Takes the leave indication out of its slot: `LeaveTaken` with it, or with none.
     pub fn take_leave_indication(self) -> Answer
         ensures { result ≡ answer self take_leave }
     {
-        if self.is_bad() {
-            return self.refuse(5);
-        }
-        self.decided_on(exchange::take_leave(self.control))
+        self.unless(self.refusal(), || {
+            self.decided_on(exchange::take_leave(self.control))
+        })
     }
 
     // Takes the status indication out of its slot: `StatusTaken` with it, or with none. Its only status is ParentLinkFailure.
     pub fn take_nwk_status_indication(self) -> Answer
         ensures { result ≡ answer self take_status }
     {
-        if self.is_bad() {
-            return self.refuse(5);
-        }
-        self.decided_on(exchange::take_status(self.control))
+        self.unless(self.refusal(), || {
+            self.decided_on(exchange::take_status(self.control))
+        })
     }
 
-    // The candidates that a join (`require_permit_joining`) or a rejoin of a network would try now, in order. The state is not changed; refusal 5 has an empty
-    // list.
+    // The candidates that a join (`require_permit_joining`) or a rejoin of a network would try now, in order. The state is not changed; refusal 5 has no list.
+    #[tactic(auto, unfolding(crate::specs::Calls::choose))]
     pub fn select_candidates(
         self,
         extended_pan_id: ExtendedPanId,
         join_as_router: bool,
         require_permit_joining: bool,
-    ) -> Choice
+    ) -> Result<CandidateList, Refusal>
         ensures { result ≡ choose extended_pan_id.0 join_as_router require_permit_joining self }
     {
-        if self.is_bad() {
-            let list = CandidateList::new();
-            return Choice { refusal: 5, list };
+        if let Some(refusal) = self.refusal() {
+            return Err(refusal);
         }
-        let list = candidates::select_candidates(
+        Ok(candidates::select_candidates(
             self.table,
             self.control.nlme.nib.stack_profile,
             extended_pan_id,
             join_as_router,
             require_permit_joining,
-        );
-        Choice { refusal: 0, list }
+        ))
     }
 }
 
@@ -781,14 +751,14 @@ impl State {
     }
 
     // The milliseconds between two keepalives, a third of the negotiated timeout, or none.
-    pub fn keepalive_interval_ms(self) -> OptionalPeriod
+    pub fn keepalive_interval_ms(self) -> Option<u32>
         ensures { result ≡ keepalive_interval_ms self.control.nlme.nib.end_device_timeout }
     {
         self.control.nlme.keepalive_interval_ms()
     }
 
     // The milliseconds between two polls, where polls are the keepalive, or none.
-    pub fn negotiated_poll_interval_ms(self) -> OptionalPeriod
+    pub fn negotiated_poll_interval_ms(self) -> Option<u32>
         ensures { result ≡ negotiated_poll_interval_ms self.control.nlme.nib.end_device_timeout self.control.nlme.nib.parent_information }
     {
         self.control.nlme.negotiated_poll_interval_ms()
@@ -809,10 +779,10 @@ impl State {
         ensures { (result ≡ page_answer (length page.old) self) × (page.new ≡ page_left page.old self) }
     {
         if self.is_bad() {
-            return self.refuse(5);
+            return self.refuse(Refusal::BadState);
         }
         if !neighbor_page::write_page(page, self.table) {
-            return self.refuse(6);
+            return self.refuse(Refusal::ShortPage);
         }
         self.tell_page_written()
     }

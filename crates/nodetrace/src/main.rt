@@ -1,23 +1,17 @@
 // Reads a trace from standard input and prints what the node answers.
 #![tactic(auto)]
 
-use filter::Input;
+use filter::Failed;
 use trace::Run;
 use trace_calls::Session;
 
-// A run, how many bytes of a line that is not ended are kept, and whether the input is over.
-#[derive(Clone, Copy)]
-struct Fed {
-    run: Run,
-    kept: usize,
-    over: bool,
-}
+const NAME: [u8; 9] = *b"nodetrace";
 
 // Prints the usage if there is an argument, and answers whether it did.
 fn usage_printed(rt: &HostRuntime) -> bool {
     filter::print_usage(
         rt,
-        b"nodetrace",
+        &NAME,
         filter::word_count(rt),
         b"Usage: nodetrace < TRACE\n\
         \n\
@@ -36,67 +30,79 @@ fn usage_printed(rt: &HostRuntime) -> bool {
     )
 }
 
-// Answers a line that is ended. A run whose answer can't be printed is no longer good, and ends as at a bad line.
-fn answer(rt: &HostRuntime, run: Run, line: &[u8]) -> Run {
-    let mut out = [0u8; 16384];
-    let mut next = run.answer_line(line, &mut out);
-    let length = next.length;
-    if !filter::write(rt, b"nodetrace", &out[..length]) {
-        next.good = false;
+// The run is over: its input is, or a line was bad, or an edge of the program failed.
+#[derive(Drop)]
+struct Over;
+
+impl From<Failed> for Over {
+    fn from(_: Failed) -> Over {
+        Over
     }
-    next
 }
 
-// Reads on through the next bytes of the input. Of a line 512 bytes are kept: no line of so many is of the format.
-fn feed(rt: &HostRuntime, mut run: Run, mut kept: usize, piece: &[u8], line: &mut [u8]) -> Fed {
-    let mut at = 0;
-    while at < piece.len() {
-        let taken = pieces::take_line(line, kept, piece, at);
-        at = taken.at;
-        kept = taken.kept;
-        if taken.ended {
-            run = answer(rt, run, &line[..kept]);
-            kept = 0;
-            if !run.good {
-                return Fed {
-                    run,
-                    kept,
-                    over: true,
-                };
-            }
+// Answers a line that is ended.
+fn answer(rt: &HostRuntime, run: Run, line: &[u8]) -> Result<Run, Over> {
+    let mut out = [0u8; 16384];
+    let next = run.answer_line(line, &mut out);
+    filter::write(rt, &NAME, &out[..next.length])?;
+    if next.good { Ok(next) } else { Err(Over) }
+}
+
+// A run, and what is kept of a line that is not ended: 512 bytes at most, since no line of so many is of the format.
+#[derive(Drop)]
+struct Reading {
+    run: Run,
+    line: [u8; 512],
+    kept: usize,
+}
+
+impl Reading {
+    fn new() -> Reading {
+        let run = Run {
+            session: Session::new(),
+            number: 0,
+            good: true,
+            length: 0,
+        };
+        Reading {
+            run,
+            line: [0; 512],
+            kept: 0,
         }
     }
-    Fed {
-        run,
-        kept,
-        over: false,
-    }
-}
 
-// At the end of the input: a line that is not ended is bad, and so is a beacon that is missing. The empty line, which is bad too, stands for either.
-fn finish(rt: &HostRuntime, run: Run, kept: usize) {
-    if kept != 0 {
-        answer(rt, run, b"");
-        return;
+    // Answers the lines that are ended in the next bytes of the input.
+    fn feed(&mut self, rt: &HostRuntime, piece: &[u8]) -> Result<(), Over> {
+        let mut at = 0;
+        while at < piece.len() {
+            let taken = pieces::take_line(&mut self.line, self.kept, piece, at);
+            at = taken.at;
+            self.kept = taken.kept;
+            if taken.ended {
+                self.run = answer(rt, self.run, &self.line[..taken.kept])?;
+                self.kept = 0;
+            }
+        }
+        Ok(())
     }
-    if run.session.missing != 0 {
-        answer(rt, run, b"");
-    }
-}
 
-// Reads once, and answers the lines that are ended. Where the read fails the input is over, and nothing more is said of it.
-fn read_some(rt: &HostRuntime, mut fed: Fed, line: &mut [u8]) -> Fed {
-    let mut piece = [0u8; 16384];
-    let Input::Bytes(n) = filter::read(rt, b"nodetrace", &mut piece) else {
-        fed.over = true;
-        return fed;
-    };
-    if n == 0 {
-        finish(rt, fed.run, fed.kept);
-        fed.over = true;
-        return fed;
+    // At the end of the input: a line that is not ended is bad, and so is a beacon that is missing. The empty line, which is bad too, stands for either.
+    fn finish(&self, rt: &HostRuntime) {
+        if self.kept != 0 || self.run.session.missing != 0 {
+            let _ = answer(rt, self.run, b"");
+        }
     }
-    feed(rt, fed.run, fed.kept, &piece[..n], line)
+
+    // Reads once, and answers the lines that are ended. Where the read fails nothing more is said.
+    fn read_on(&mut self, rt: &HostRuntime) -> Result<(), Over> {
+        let mut piece = [0u8; 16384];
+        let n = filter::read(rt, &NAME, &mut piece)?;
+        if n == 0 {
+            self.finish(rt);
+            return Err(Over);
+        }
+        self.feed(rt, &piece[..n])
+    }
 }
 
 // A proved loop has to end, and nothing says that the input does: the loop has more turns than any run uses up.
@@ -104,22 +110,9 @@ fn main(rt: HostRuntime) {
     if usage_printed(&rt) {
         return;
     }
-    let mut line = [0u8; 512];
-    let session = Session::new();
-    let run = Run {
-        session,
-        number: 0,
-        good: true,
-        length: 0,
-    };
-    let mut fed = Fed {
-        run,
-        kept: 0,
-        over: false,
-    };
+    let mut reading = Reading::new();
     for _ in 0..u64::MAX {
-        fed = read_some(&rt, fed, &mut line);
-        if fed.over {
+        if reading.read_on(&rt).is_err() {
             return;
         }
     }

@@ -1,8 +1,7 @@
 -- The operation under way with some fields replaced, which outcome it awaits, and the common forms of a decision.
 -- 01, "What must change shape": "Awaited radio calls become a request and a later outcome".
-use Rattle.std.specs.Prelude.{ℕ, ◌-◌, Bool, true, false, cond, eqb}
+use Rattle.std.specs.Prelude.{Option, Some, None, Result, Ok, Err, ℕ, ◌-◌, Bool, true, false, cond, eqb}
 use Rattle.nib.specs.declared.NwkNeighbor.{NwkNeighbor}
-use Rattle.nib.specs.declared.Neighbor.{Neighbor}
 use Rattle.nlme.specs.declared.Nlme.{Nlme}
 use Rattle.nlme.specs.declared.received.LeaveAnnouncement.{LeaveAnnouncement}
 use Rattle.operation.specs.declared.Purpose.{Purpose}
@@ -13,6 +12,7 @@ use Rattle.operation.specs.declared.Operation.{Operation}
 use Rattle.operation.specs.declared.Control.{Control}
 use Rattle.operation.specs.declared.RadioRequest.{RadioRequest}
 use Rattle.operation.specs.declared.Note.{Note}
+use Rattle.operation.specs.declared.Refusal.{Refusal}
 use Rattle.operation.specs.declared.Step.{Step}
 use Rattle.operation.specs.declared.Move.{Move}
 use Rattle.operation.specs.declared.Decision.{Decision}
@@ -90,48 +90,53 @@ is_idle Phase.Association = false
 is_idle (Phase.Transmission u) = false
 is_idle (Phase.Reception u) = false
 
--- what an outcome of some kind is awaited for, where a request awaits that kind (01, "When a call is turned down")
-pub data For (A : Type 0) : Type 0 where
-  awaited : A → For A
-  unawaited : For A
+-- the number of a refusal (01, "When a call is turned down")
+abbrev pub refusal_number : Refusal → ℕ
+refusal_number Refusal.OperationUnderWay = 1
+refusal_number Refusal.NotAwaited = 2
+refusal_number Refusal.TooManyDescriptors = 3
+refusal_number Refusal.TooManyShortAddressed = 4
+refusal_number Refusal.BadState = 5
+refusal_number Refusal.ShortPage = 6
 
-abbrev pub scan_for : Phase → For ScanFor
-scan_for (Phase.Scan u) = awaited u
-scan_for Phase.Idle = unawaited
-scan_for Phase.Association = unawaited
-scan_for (Phase.Transmission u) = unawaited
-scan_for (Phase.Reception u) = unawaited
+-- what an outcome of some kind is awaited for, where a request awaits that kind (01, "When a call is turned down")
+abbrev pub scan_for : Phase → Option ScanFor
+scan_for (Phase.Scan u) = Some u
+scan_for Phase.Idle = None
+scan_for Phase.Association = None
+scan_for (Phase.Transmission u) = None
+scan_for (Phase.Reception u) = None
 
 -- an association is a join's
-abbrev pub association_for : Phase → For (Unit {0})
-association_for Phase.Association = awaited tt
-association_for Phase.Idle = unawaited
-association_for (Phase.Scan u) = unawaited
-association_for (Phase.Transmission u) = unawaited
-association_for (Phase.Reception u) = unawaited
+abbrev pub association_for : Phase → Option (Unit {0})
+association_for Phase.Association = Some tt
+association_for Phase.Idle = None
+association_for (Phase.Scan u) = None
+association_for (Phase.Transmission u) = None
+association_for (Phase.Reception u) = None
 
-abbrev pub transmission_for : Phase → For TransmissionFor
-transmission_for (Phase.Transmission u) = awaited u
-transmission_for Phase.Idle = unawaited
-transmission_for (Phase.Scan u) = unawaited
-transmission_for Phase.Association = unawaited
-transmission_for (Phase.Reception u) = unawaited
+abbrev pub transmission_for : Phase → Option TransmissionFor
+transmission_for (Phase.Transmission u) = Some u
+transmission_for Phase.Idle = None
+transmission_for (Phase.Scan u) = None
+transmission_for Phase.Association = None
+transmission_for (Phase.Reception u) = None
 
 -- a poll or a receive
-abbrev pub reception_for : Phase → For Purpose
-reception_for (Phase.Reception u) = awaited u
-reception_for Phase.Idle = unawaited
-reception_for (Phase.Scan u) = unawaited
-reception_for Phase.Association = unawaited
-reception_for (Phase.Transmission u) = unawaited
+abbrev pub reception_for : Phase → Option Purpose
+reception_for (Phase.Reception u) = Some u
+reception_for Phase.Idle = None
+reception_for (Phase.Scan u) = None
+reception_for Phase.Association = None
+reception_for (Phase.Transmission u) = None
 
 -- a decision that uses no poll and leaves the candidate being tried a potential parent
-abbrev pub decided : Move → Note → Step → Control → Decision
+abbrev pub decided : Move → Option Note → Step → Control → Decision
 decided m n s c = record { control = c; clear_potential_parent = false; candidate = m; note = n; step = s; polls_used = 0 }
 
 -- an answer that leaves the operation under way as it is
 abbrev pub telling : Step → Control → Decision
-telling s c = decided Move.Stay Note.NoNote s c
+telling s c = decided Move.Stay None s c
 
 -- a request to the radio, whose outcome is awaited
 abbrev pub asking : Phase → RadioRequest → Control → Decision
@@ -154,7 +159,7 @@ polled u p c =
       control = in_phase (Phase.Reception u) c;
       clear_potential_parent = false;
       candidate = Move.Stay;
-      note = Note.NoNote;
+      note = None;
       step = Step.Ask (RadioRequest.Poll c.nlme.nib.panid p.network_address);
       polls_used = 1;
     }
@@ -165,20 +170,28 @@ with_polls_left k c = with_operation (with_polls k c.operation) c
 -- the polls of a rejoin's try, a negotiation or a keepalive. The parent is asked while any is left, and nobody once they are over.
 -- With no parent they are over at once: "A poll made while no entry is PARENT counts towards the 20 but sends no radio request"
 -- (01, "Join request and confirm")
-unfoldable pub polling : Neighbor → Control → Polling
-polling Neighbor.Absent c = record { parent = Neighbor.Absent; control = with_polls_left 0 c }
-polling (Neighbor.Entry p) c =
+unfoldable pub polling : Option NwkNeighbor → Control → Polling
+polling None c = record { parent = None; control = with_polls_left 0 c }
+polling (Some p) c =
     cond (eqb c.operation.polls_left 0)
-    (record { parent = Neighbor.Absent; control = c })
-    (record { parent = Neighbor.Entry p; control = with_polls_left (c.operation.polls_left - 1) c })
+    (record { parent = None; control = c })
+    (record { parent = Some p; control = with_polls_left (c.operation.polls_left - 1) c })
 
 -- the next poll, or what follows once they are over
-abbrev pub polled_or : Purpose → (Control → Decision) → Neighbor → Control → Decision
-polled_or u over Neighbor.Absent c = over c
-polled_or u over (Neighbor.Entry p) c = polled u p c
+abbrev pub polled_or : Purpose → (Control → Decision) → Option NwkNeighbor → Control → Decision
+polled_or u over None c = over c
+polled_or u over (Some p) c = polled u p c
 
-unfoldable pub poll_on : Purpose → Neighbor → (Control → Decision) → Control → Decision
+unfoldable pub poll_on : Purpose → Option NwkNeighbor → (Control → Decision) → Control → Decision
 poll_on u parent over c = polled_or u over (polling parent c).parent (polling parent c).control
+
+-- the next poll, or the control part once they are over
+abbrev pub polled_by : Purpose → Option NwkNeighbor → Control → Result Decision Control
+polled_by u None c = Err c
+polled_by u (Some p) c = Ok (polled u p c)
+
+unfoldable pub next_poll : Purpose → Option NwkNeighbor → Control → Result Decision Control
+next_poll u parent c = polled_by u (polling parent c).parent (polling parent c).control
 
 -- a discovery is over, and has heard
 abbrev pub is_discovered : Step → Bool

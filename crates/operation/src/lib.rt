@@ -2,15 +2,15 @@
 #![tactic(auto)]
 
 ghost use Rattle.std.specs.Prelude.{◌≡◌};
-ghost use Rattle.operation.specs.Operation.{idle_control, with_nlme, with_polls_left, in_phase, is_idle, decided, telling, asking, announcing_leave, ending, polled, polling, is_discovered};
+ghost use Rattle.operation.specs.Operation.{refusal_number, idle_control, with_nlme, with_polls_left, in_phase, is_idle, decided, telling, asking, announcing_leave, ending, polled, polling, next_poll, is_discovered};
 ghost use Rattle.operation.specs.declared.RadioRequest.TheVariants.{Transmit};
 
 use discovery::mlme::MacCapabilityInformation;
 use management::{
-    KeepaliveAnswer, LeaveIndicationSlot, NegotiationAnswer, NlmeJoinConfirm, PollAnswer,
-    ScanRange, SendAnswer, StatusIndicationSlot,
+    KeepaliveAnswer, NegotiationAnswer, NlmeJoinConfirm, NlmeLeaveIndication,
+    NlmeNwkStatusIndication, PollAnswer, ScanRange, SendAnswer,
 };
-use nib::{ExtendedPanId, Neighbor, NwkNeighbor, PanId, ShortAddress};
+use nib::{ExtendedPanId, NwkNeighbor, PanId, ShortAddress};
 use nlme::received::LeaveAnnouncement;
 use nlme::{Nlme, Transmission};
 
@@ -85,6 +85,7 @@ pub struct Control {
     pub operation: Operation,
 }
 
+// The request to associate with a candidate.
 #[derive(Clone, Copy)]
 pub struct AssociateRequest {
     pub channel: u8,
@@ -93,6 +94,7 @@ pub struct AssociateRequest {
     pub capabilities: MacCapabilityInformation,
 }
 
+// What the radio is asked, with an outcome that is awaited.
 #[derive(Clone, Copy)]
 pub enum RadioRequest {
     Scan(ScanRange),
@@ -105,15 +107,40 @@ pub enum RadioRequest {
 // What the radio is told without an outcome: the set-channel or set-address note (01, "Join request and confirm").
 #[derive(Clone, Copy)]
 pub enum Note {
-    NoNote,
     SetChannel(u8),
     SetAddress(ShortAddress),
+}
+
+// Why a call is turned down. Each refusal has a number.
+#[derive(Clone, Copy)]
+pub enum Refusal {
+    // an operation is under way
+    OperationUnderWay = 1,
+    // no request awaits that outcome
+    NotAwaited = 2,
+    // a scan with more than 27 descriptors
+    TooManyDescriptors = 3,
+    // a scan with more than 16 short-addressed descriptors
+    TooManyShortAddressed = 4,
+    // a state with a count above 16, more than 20 polls left, or an association with an index past the table
+    BadState = 5,
+    // a lent buffer shorter than the 816 bytes of a page
+    ShortPage = 6,
+}
+
+impl Refusal {
+    // The number of a refusal.
+    pub fn number(self) -> u8
+        ensures { result ≡ refusal_number self }
+    {
+        self as u8
+    }
 }
 
 // What a call answers.
 #[derive(Clone, Copy)]
 pub enum Step {
-    Refused(u8),
+    Refused(Refusal),
     Ask(RadioRequest),
     Discovered,
     DiscoveryFailed,
@@ -123,8 +150,8 @@ pub enum Step {
     NegotiationOver(NegotiationAnswer),
     KeepaliveOver(KeepaliveAnswer),
     Expired(bool),
-    LeaveTaken(LeaveIndicationSlot),
-    StatusTaken(StatusIndicationSlot),
+    LeaveTaken(Option<NlmeLeaveIndication>),
+    StatusTaken(Option<NlmeNwkStatusIndication>),
     PageWritten,
     // what the call is for is done, and there is nothing to say of it
     Done,
@@ -147,7 +174,7 @@ pub struct Decision {
     // the candidate being tried is no longer a potential parent
     pub clear_potential_parent: bool,
     pub candidate: Move,
-    pub note: Note,
+    pub note: Option<Note>,
     pub step: Step,
     pub polls_used: u8,
 }
@@ -155,7 +182,7 @@ pub struct Decision {
 // The polls for a response: whom the next one asks, which is nobody once they are over, and the control part then.
 #[derive(Clone, Copy)]
 pub struct Polling {
-    pub parent: Neighbor,
+    pub parent: Option<NwkNeighbor>,
     pub control: Control,
 }
 
@@ -164,20 +191,22 @@ impl Control {
     pub fn new(nlme: Nlme) -> Control
         ensures { result ≡ idle_control nlme }
     {
-        let operation = Operation {
-            phase: Phase::Idle,
-            extended_pan_id: ExtendedPanId(0),
-            security_enabled: false,
-            scan: ScanRange {
-                first: 0,
-                past: 0,
-                duration: 0,
+        Control {
+            nlme,
+            operation: Operation {
+                phase: Phase::Idle,
+                extended_pan_id: ExtendedPanId(0),
+                security_enabled: false,
+                scan: ScanRange {
+                    first: 0,
+                    past: 0,
+                    duration: 0,
+                },
+                scan_requested: false,
+                channel: 0,
+                polls_left: 0,
             },
-            scan_requested: false,
-            channel: 0,
-            polls_left: 0,
-        };
-        Control { nlme, operation }
+        }
     }
 }
 
@@ -185,59 +214,34 @@ impl Control {
 pub fn with_nlme(control: Control, nlme: Nlme) -> Control
     ensures { result ≡ with_nlme nlme control }
 {
-    let mut replaced = control;
-    replaced.nlme = nlme;
-    replaced
+    Control { nlme, ..control }
 }
 
 // How many polls are left.
-pub fn with_polls(control: Control, polls_left: u8) -> Control
+pub fn with_polls(mut control: Control, polls_left: u8) -> Control
     ensures { result ≡ with_polls_left polls_left control }
 {
-    let mut next = control;
-    next.operation.polls_left = polls_left;
-    next
+    control.operation.polls_left = polls_left;
+    control
 }
 
 // The control part awaits something else.
-pub fn in_phase(control: Control, phase: Phase) -> Control
+pub fn in_phase(mut control: Control, phase: Phase) -> Control
     ensures { result ≡ in_phase phase control }
 {
-    let nlme = control.nlme;
-    let now = control.operation;
-    let extended_pan_id = now.extended_pan_id;
-    let security_enabled = now.security_enabled;
-    let scan = now.scan;
-    let scan_requested = now.scan_requested;
-    let channel = now.channel;
-    let polls_left = now.polls_left;
-    let operation = Operation {
-        phase,
-        extended_pan_id,
-        security_enabled,
-        scan,
-        scan_requested,
-        channel,
-        polls_left,
-    };
-    Control { nlme, operation }
+    control.operation.phase = phase;
+    control
 }
 
 // Whether no operation is under way.
 pub fn is_idle(phase: Phase) -> bool
     ensures { result ≡ is_idle phase }
 {
-    match phase {
-        Phase::Idle => true,
-        Phase::Scan(_) => false,
-        Phase::Association => false,
-        Phase::Transmission(_) => false,
-        Phase::Reception(_) => false,
-    }
+    matches!(phase, Phase::Idle)
 }
 
 // A decision that uses no poll and leaves the candidate being tried a potential parent.
-pub fn decided(control: Control, candidate: Move, note: Note, step: Step) -> Decision
+pub fn decided(control: Control, candidate: Move, note: Option<Note>, step: Step) -> Decision
     ensures { result ≡ decided candidate note step control }
 {
     Decision {
@@ -254,7 +258,7 @@ pub fn decided(control: Control, candidate: Move, note: Note, step: Step) -> Dec
 pub fn telling(control: Control, step: Step) -> Decision
     ensures { result ≡ telling step control }
 {
-    decided(control, Move::Stay, Note::NoNote, step)
+    decided(control, Move::Stay, None, step)
 }
 
 // A request to the radio, whose outcome is awaited.
@@ -301,35 +305,48 @@ pub fn announce(control: Control, purpose: Purpose, announcement: LeaveAnnouncem
 pub fn poll_parent(control: Control, purpose: Purpose, parent: NwkNeighbor) -> Decision
     ensures { result ≡ polled purpose parent control }
 {
-    let pan_id = control.nlme.nib.panid;
-    let address = parent.network_address;
-    let mut polled = asking(
-        control,
-        Phase::Reception(purpose),
-        RadioRequest::Poll(pan_id, address),
-    );
-    polled.polls_used = 1;
-    polled
+    let request = RadioRequest::Poll(control.nlme.nib.panid, parent.network_address);
+    Decision {
+        polls_used: 1,
+        ..asking(control, Phase::Reception(purpose), request)
+    }
 }
 
 // The next of the polls for a response. With no parent those left are used up at once.
-pub fn poll_on(mut control: Control, parent: Neighbor) -> Polling
+#[tactic(auto, unfolding(crate::specs::Operation::polling))]
+pub fn poll_on(control: Control, parent: Option<NwkNeighbor>) -> Polling
     ensures { result ≡ polling parent control }
 {
+    let left = control.operation.polls_left;
     match parent {
-        Neighbor::Absent => {
-            control = with_polls(control, 0);
-            return Polling { parent, control };
-        }
-        Neighbor::Entry(_) => {
-            let remaining = control.operation.polls_left;
-            if remaining == 0 {
-                let parent = Neighbor::Absent;
-                return Polling { parent, control };
-            }
-            control = with_polls(control, remaining - 1);
-            return Polling { parent, control };
-        }
+        None => Polling {
+            parent,
+            control: with_polls(control, 0),
+        },
+        Some(_) if left == 0 => Polling {
+            parent: None,
+            control,
+        },
+        Some(_) => Polling {
+            parent,
+            control: with_polls(control, left - 1),
+        },
+    }
+}
+
+// The next of the polls for a response, or the control part once they are over, for what follows then.
+#[tactic(auto, unfolding(crate::specs::Operation::next_poll))]
+pub fn next_poll(
+    control: Control,
+    purpose: Purpose,
+    parent: Option<NwkNeighbor>,
+) -> Result<Decision, Control>
+    ensures { result ≡ next_poll purpose parent control }
+{
+    let Polling { parent, control } = poll_on(control, parent);
+    match parent {
+        Some(parent) => Ok(poll_parent(control, purpose, parent)),
+        None => Err(control),
     }
 }
 
@@ -337,20 +354,5 @@ pub fn poll_on(mut control: Control, parent: Neighbor) -> Polling
 pub fn is_discovered(step: Step) -> bool
     ensures { result ≡ is_discovered step }
 {
-    match step {
-        Step::Refused(_) => false,
-        Step::Ask(_) => false,
-        Step::Discovered => true,
-        Step::DiscoveryFailed => false,
-        Step::Joined(_) => false,
-        Step::Sent(_) => false,
-        Step::Polled(_) => false,
-        Step::NegotiationOver(_) => false,
-        Step::KeepaliveOver(_) => false,
-        Step::Expired(_) => false,
-        Step::LeaveTaken(_) => false,
-        Step::StatusTaken(_) => false,
-        Step::PageWritten => false,
-        Step::Done => false,
-    }
+    matches!(step, Step::Discovered)
 }

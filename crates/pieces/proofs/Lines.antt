@@ -11,7 +11,8 @@ use lib.ListN.{length, take, drop, length-append, length-take, length-drop, drop
 use lib.Seq.{sets, sets-eq, length-sets, length-take-le, take_all, take_at, take-take, take-append-add, append_snoc, drop-drop}
 use Rattle.lists.specs.Lists.{first_index, some}
 use Rattle.lists.proofs.Bytes.{sets-fit}
-use Rattle.text.specs.Text.{onto_first, parts}
+use Rattle.std.specs.List.{onto_first}
+use Rattle.text.specs.Text.{parts}
 use Rattle.text.proofs.Parts.{parts-some}
 use Rattle.pieces.specs.Pieces.{is_feed, line_bytes, is_ended, line_taken, line_after}
 use Rattle.pieces.specs.Statement.{Held, at_first, kept_bytes, with_more, line_got, through_piece, after_pieces, LinesOfPieces}

@@ -17,14 +17,7 @@ pub struct Taken {
 fn kept_with(size: usize, kept: usize, more: usize) -> usize
     ensures { result ≡ min (kept + more) size }
 {
-    if size <= kept {
-        return size;
-    }
-    if more < size - kept {
-        kept + more
-    } else {
-        size
-    }
+    kept.saturating_add(more).min(size)
 }
 
 // Takes one line's bytes out of a piece, from a place on: those up to its next line feed, or to its end. They are put behind the first `kept` bytes of the

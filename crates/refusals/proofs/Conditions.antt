@@ -1,4 +1,5 @@
 -- The tests of the definitions tell whether the statement's conditions hold (specs/Statement.antt). Assumes nothing.
+use Rattle.std.specs.Prelude.{Option, Some, None}
 use Prim.Native.Nat.{ℕ, suc, ◌-◌, ◌<◌, ◌≤◌}
 use mathlib.Core.Path.{◌≡◌, refl, sym, ap, ◌∙◌}
 use mathlib.Core.Bool.{Bool, true, false, cond, not, ◌||◌, false≢true}
@@ -15,7 +16,7 @@ use Rattle.discovery.specs.Discovery.{neighbor_by, present, neighbors_of, short_
 use Rattle.candidates.specs.Candidates.{items_of}
 use Rattle.candidates.specs.Tries.{past_table}
 use Rattle.candidates.specs.declared.tries.Candidates.{Candidates}
-use Rattle.operation.specs.Operation.{For, awaited, unawaited, is_idle, scan_for, association_for, transmission_for, reception_for}
+use Rattle.operation.specs.Operation.{is_idle, scan_for, association_for, transmission_for, reception_for}
 use Rattle.operation.specs.declared.Purpose.{Purpose}
 use Rattle.operation.specs.declared.ScanFor.{ScanFor}
 use Rattle.operation.specs.declared.TransmissionFor.{TransmissionFor}
@@ -46,11 +47,11 @@ above-told k n = go (ltb k n) refl
     go false e = fails (λ l. omega (arith, ltb-false k n e))
 
 -- a phase that awaits an outcome of some kind is not one that does not
-abbrev is_awaited : {A : Type 0} → For A → Bool
-is_awaited (awaited u) = true
-is_awaited unawaited = false
+abbrev is_awaited : {A : Type 0} → Option A → Bool
+is_awaited (Some u) = true
+is_awaited None = false
 
-differ : {A : Type 0} (kind : Phase → For A) {p q : Phase} → is_awaited (kind p) ≡ false → is_awaited (kind q) ≡ true → p ≡ q → ⊥
+differ : {A : Type 0} (kind : Phase → Option A) {p q : Phase} → is_awaited (kind p) ≡ false → is_awaited (kind q) ≡ true → p ≡ q → ⊥
 differ kind h k e = false≢true (sym h ∙ ap (λ (x : Phase). is_awaited (kind x)) e ∙ k)
 
 -- 5: ITS SIX CONDITIONS
@@ -126,9 +127,9 @@ idle-told (Phase.Reception u) = fails (λ e. false≢true (ap is_idle e))
 -- 2: A REQUEST AWAITS THAT KIND
 
 -- what is awaited tells whether a condition holds: it does where nothing is
-pub data Told (C : Type 0) {A : Type 0} : For A → Type 0 where
-  awaits : {u : A} → (C → ⊥) → Told C (awaited u)
-  awaits-none : C → Told C unawaited
+pub data Told (C : Type 0) {A : Type 0} : Option A → Type 0 where
+  awaits : {u : A} → (C → ⊥) → Told C (Some u)
+  awaits-none : C → Told C None
 
 pub scan-told : (p : Phase) → Told ((u : ScanFor) → p ≡ Phase.Scan u → ⊥) (scan_for p)
 scan-told Phase.Idle = awaits-none (λ u. differ scan_for refl refl)

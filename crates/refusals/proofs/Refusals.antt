@@ -1,4 +1,5 @@
 -- A call gets its step, or the refusal that 01 gives it. Assumes nothing.
+use Rattle.std.specs.Prelude.{Option, Some, None, Result, Ok, Err, is_ok}
 use Prim.Native.Nat.{ℕ, ◌<◌}
 use mathlib.Core.Path.{◌≡◌, refl, sym, ap, subst, subst⁻¹, ◌∙◌}
 use mathlib.Core.Bool.{Bool, true, false, cond, false≢true}
@@ -15,7 +16,7 @@ use Rattle.management.specs.declared.NlmeJoinRequest.{NlmeJoinRequest}
 use Rattle.management.specs.declared.PollAnswer.{PollAnswer}
 use Rattle.nlme.specs.declared.received.Then.{Then}
 use Rattle.supervision.specs.declared.parent_timer.ParentTimer.{ParentTimer}
-use Rattle.operation.specs.Operation.{telling, For, awaited, unawaited, scan_for, association_for, transmission_for, reception_for}
+use Rattle.operation.specs.Operation.{refusal_number, telling, scan_for, association_for, transmission_for, reception_for}
 use Rattle.operation.specs.declared.Purpose.{Purpose}
 use Rattle.operation.specs.declared.ScanFor.{ScanFor}
 use Rattle.operation.specs.declared.TransmissionFor.{TransmissionFor}
@@ -29,14 +30,17 @@ use Rattle.node.specs.Refusals.{refuse, bad, start, outcome}
 use Rattle.node.specs.Calls.{associate, join_by, scan_failed, with_scan, scan_heard, scan_over, go_on, after, reception_over, after_leave, transmission_over, Call, discovery, join, send, poll, receive, timeout, scan, association, transmission, reception, elapsed, take_leave, take_status, made, answer, confirm_by, scanned, choose, refresh, page_answer, page_left}
 use Rattle.node.specs.declared.State.{State}
 use Rattle.node.specs.declared.Answer.{Answer}
-use Rattle.node.specs.declared.Choice.{Choice}
-use Rattle.node.specs.declared.ScanOutcome.{ScanOutcome}
-use Rattle.node.specs.declared.ReceptionOutcome.{ReceptionOutcome}
 use Rattle.lent_tick.specs.LentTick.{with_timer, lent_turned_down, with_record, lent_tick}
 use Rattle.lent_tick.specs.declared.LentTicked.{LentTicked}
-use Rattle.refusals.specs.Statement.{phase, Bad, UnderWay, Above27, Above16, numbers, First, TurnedDown, Answered, Demand1}
+use Rattle.refusals.specs.Statement.{phase, Bad, UnderWay, Above27, Above16, numbers, First, TurnedDown, Answered, Unchosen, Demand1}
 use Rattle.refusals.proofs.Conditions.{Tells, holds, fails, Told, awaits, awaits-none, same-told, above-told, bad-told, idle-told, scan-told, association-told, transmission-told, reception-told, shorts-are}
 use Rattle.refusals.proofs.Decisions.{Uses, join-made, associated-made, rejoin-made, next-made, request-made, send-made, sent-made, poll_started-made, timeout-made, timeout_sent-made, continuing-made}
+use Rattle.discovery.specs.declared.mlme.MacError.{MacError}
+use Rattle.management.specs.declared.frame.ReceivedFrame.{ReceivedFrame}
+use Rattle.discovery.specs.declared.mlme.PanDescriptorList.{PanDescriptorList}
+use Rattle.operation.specs.declared.Refusal.{Refusal}
+use Rattle.candidates.specs.declared.CandidateList.{CandidateList}
+use Rattle.operation.specs.declared.Refusal.TheVariants.{OperationUnderWay, NotAwaited, TooManyDescriptors, TooManyShortAddressed, BadState, ShortPage}
 
 -- an answer whose step is made, and uses the polls that it requests
 abbrev Done : Answer → Type 0
@@ -45,26 +49,26 @@ Done a = Uses a.step a.polls_used
 -- an answer with numbered conditions: the refusal of the first that holds; where none does, its step is made
 pub data Gets (s : State) (a : Answer) : List (ℕ × Type 0) → Type 1 where
   done : Done a → Gets s a []
-  turned : {k : ℕ} {C : Type 0} {cs : List (ℕ × Type 0)} → C → a ≡ refuse k s → Gets s a ((k, C) ∷ cs)
+  turned : {k : ℕ} {C : Type 0} {cs : List (ℕ × Type 0)} (r : Refusal) → refusal_number r ≡ k → C → a ≡ refuse r s → Gets s a ((k, C) ∷ cs)
   passed : {k : ℕ} {C : Type 0} {cs : List (ℕ × Type 0)} → (C → ⊥) → Gets s a cs → Gets s a ((k, C) ∷ cs)
 
 -- one condition more, by its test or by what is awaited
-tested : {s : State} {b : Bool} {k : ℕ} {C : Type 0} {cs : List (ℕ × Type 0)} {a : Answer} → Tells C b → Gets s a cs → Gets s (cond b (refuse k s) a) ((k, C) ∷ cs)
-tested (holds h) g = turned h refl
-tested (fails h) g = passed h g
+tested : {s : State} {b : Bool} {k : ℕ} {C : Type 0} {cs : List (ℕ × Type 0)} {a : Answer} (r : Refusal) → refusal_number r ≡ k → Tells C b → Gets s a cs → Gets s (cond b (refuse r s) a) ((k, C) ∷ cs)
+tested r q (holds h) g = turned r q h refl
+tested r q (fails h) g = passed h g
 
-outcome-made : {A : Type 0} (s : State) (w : For A) (f : A → State → Answer) {C : Type 0} {cs : List (ℕ × Type 0)} → Told C w → ((u : A) → Gets s (f u s) cs)
+outcome-made : {A : Type 0} (s : State) (w : Option A) (f : A → State → Answer) {C : Type 0} {cs : List (ℕ × Type 0)} → Told C w → ((u : A) → Gets s (f u s) cs)
     → Gets s (outcome w f s) ((2, C) ∷ cs)
 unfolding outcome
-outcome-made s (awaited u) f (awaits h) g = passed h (g u)
-outcome-made s unawaited f (awaits-none h) g = turned h refl
+outcome-made s (Some u) f (awaits h) g = passed h (g u)
+outcome-made s None f (awaits-none h) g = turned NotAwaited refl h refl
 
 start-made : (s : State) (a : Answer) → Done a → Gets s (start a s) ((1, UnderWay s) ∷ [])
 start-made s a h = go (idle-told (phase s))
   where
-    go : {b : Bool} → Tells (phase s ≡ Phase.Idle) b → Gets s (cond b a (refuse 1 s)) ((1, UnderWay s) ∷ [])
+    go : {b : Bool} → Tells (phase s ≡ Phase.Idle) b → Gets s (cond b a (refuse OperationUnderWay s)) ((1, UnderWay s) ∷ [])
     go (holds i) = passed (λ (n : UnderWay s). n i) (done h)
-    go (fails i) = turned i refl
+    go (fails i) = turned OperationUnderWay refl i refl
 
 carried : (reset : Bool) (s : State) (d : Decision) → Uses d.step d.polls_used → Done (finish reset s d)
 unfolding finish
@@ -96,21 +100,14 @@ unfolding scan_heard
 scan_heard-made ScanFor.Discovery s = carried false s _ refl
 scan_heard-made ScanFor.Rejoin s = carried false _ _ (next-made _ _ _).0
 
-scan-made : (o : ScanOutcome) (s : State) (u : ScanFor) → Gets s (scan_over o u s) ((3, Above27 o) ∷ (4, Above16 o) ∷ [])
+scan-made : (o : Result PanDescriptorList MacError) (s : State) (u : ScanFor) → Gets s (scan_over o u s) ((3, Above27 o) ∷ (4, Above16 o) ∷ [])
 unfolding scan_over
-scan-made o s u = go o.failed refl
-  where
-    go : (b : Bool) → o.failed ≡ b
-        → Gets s
-        (cond b (scan_failed u s)
-        (cond (ltb 27 o.list.count) (refuse 3 s)
-        (cond (ltb 16 (short_addressed (descriptors_of o.list))) (refuse 4 s) (scan_heard u (with_scan (descriptors_of o.list) s)))))
-        ((3, Above27 o) ∷ (4, Above16 o) ∷ [])
-    go true e = passed (λ (h : Above27 o). false≢true (sym h.0 ∙ e)) (passed (λ (h : Above16 o). false≢true (sym h.0 ∙ e)) (done (scan_failed-made u s)))
-    go false e =
-        tested (same-told (λ h. (e, h)) (λ h. h.1) (above-told 27 o.list.count))
-        (tested (same-told (λ h. (e, subst⁻¹ (λ (n : ℕ). 16 < n) (shorts-are (descriptors_of o.list)) h)) (λ h. subst (λ (n : ℕ). 16 < n) (shorts-are (descriptors_of o.list)) h.1) (above-told 16 (short_addressed (descriptors_of o.list))))
-        (done (scan_heard-made u _)))
+scan-made (Err e) s u = passed (λ (h : ⊥). h) (passed (λ (h : ⊥). h) (done (scan_failed-made u s)))
+scan-made (Ok l) s u =
+    tested TooManyDescriptors refl (above-told 27 l.count)
+    (tested TooManyShortAddressed refl
+    (same-told (λ h. subst⁻¹ (λ (n : ℕ). 16 < n) (shorts-are (descriptors_of l)) h) (λ h. subst (λ (n : ℕ). 16 < n) (shorts-are (descriptors_of l)) h) (above-told 16 (short_addressed (descriptors_of l))))
+    (done (scan_heard-made u _)))
 
 -- a poll or a receive
 go_on-made : (reset : Bool) (u : Purpose) (a : PollAnswer) (s : State) → Done (go_on reset u a s)
@@ -121,11 +118,11 @@ unfolding after
 after-made u (Then.Over a) s = go_on-made false u a s
 after-made u (Then.Announce a) s = carried false s _ refl
 
-reception-made : (o : ReceptionOutcome) (s : State) (u : Purpose) → Done (reception_over o u s)
+reception-made : (o : Result (Option ReceivedFrame) MacError) (s : State) (u : Purpose) → Done (reception_over o u s)
 unfolding reception_over
-reception-made ReceptionOutcome.NoData s u = go_on-made false u _ s
-reception-made ReceptionOutcome.ReceptionFailed s u = go_on-made false u _ s
-reception-made (ReceptionOutcome.Received f) s u = after-made u _ _
+reception-made (Ok None) s u = go_on-made false u _ s
+reception-made (Err e) s u = go_on-made false u _ s
+reception-made (Ok (Some f)) s u = after-made u _ _
 
 -- a transmission
 transmission-made : (ok : Bool) (s : State) (u : TransmissionFor) → Done (transmission_over ok u s)
@@ -139,37 +136,37 @@ transmission-made ok s (TransmissionFor.Leave l) = go_on-made _ l.purpose _ (aft
 
 pub answer-made : (s : State) (c : Call) → Gets s (answer s c) (numbers s c)
 unfolding answer receive_started
-answer-made s (discovery r) = tested (bad-told s) (start-made s _ (carried false s _ refl))
-answer-made s (join r) = tested (bad-told s) (start-made s _ (join_by-made _ r s))
-answer-made s (send d secure) = tested (bad-told s) (start-made s _ (carried false s _ (send-made d secure _ _).0))
-answer-made s poll = tested (bad-told s) (start-made s _ (carried false s _ (poll_started-made _ _).0))
-answer-made s receive = tested (bad-told s) (start-made s _ (carried false s _ refl))
-answer-made s (timeout u) = tested (bad-told s) (start-made s _ (carried false s _ (timeout-made u _ _).0))
-answer-made s (scan o) = tested (bad-told s) (outcome-made s (scan_for (phase s)) _ (scan-told (phase s)) (scan-made o s))
-answer-made s (association o) = tested (bad-told s) (outcome-made s (association_for (phase s)) _ (association-told (phase s)) (λ _. done (carried false s _ (associated-made o _ _ _).0)))
-answer-made s (transmission ok) = tested (bad-told s) (outcome-made s (transmission_for (phase s)) _ (transmission-told (phase s)) (λ u. done (transmission-made ok s u)))
-answer-made s (reception o) = tested (bad-told s) (outcome-made s (reception_for (phase s)) _ (reception-told (phase s)) (λ u. done (reception-made o s u)))
-answer-made s (elapsed ms) = tested (bad-told s) (done (carried false s _ refl))
-answer-made s take_leave = tested (bad-told s) (done (carried false s _ refl))
-answer-made s take_status = tested (bad-told s) (done (carried false s _ refl))
+answer-made s (discovery r) = tested BadState refl (bad-told s) (start-made s _ (carried false s _ refl))
+answer-made s (join r) = tested BadState refl (bad-told s) (start-made s _ (join_by-made _ r s))
+answer-made s (send d secure) = tested BadState refl (bad-told s) (start-made s _ (carried false s _ (send-made d secure _ _).0))
+answer-made s poll = tested BadState refl (bad-told s) (start-made s _ (carried false s _ (poll_started-made _ _).0))
+answer-made s receive = tested BadState refl (bad-told s) (start-made s _ (carried false s _ refl))
+answer-made s (timeout u) = tested BadState refl (bad-told s) (start-made s _ (carried false s _ (timeout-made u _ _).0))
+answer-made s (scan o) = tested BadState refl (bad-told s) (outcome-made s (scan_for (phase s)) _ (scan-told (phase s)) (scan-made o s))
+answer-made s (association o) = tested BadState refl (bad-told s) (outcome-made s (association_for (phase s)) _ (association-told (phase s)) (λ _. done (carried false s _ (associated-made o _ _ _).0)))
+answer-made s (transmission ok) = tested BadState refl (bad-told s) (outcome-made s (transmission_for (phase s)) _ (transmission-told (phase s)) (λ u. done (transmission-made ok s u)))
+answer-made s (reception o) = tested BadState refl (bad-told s) (outcome-made s (reception_for (phase s)) _ (reception-told (phase s)) (λ u. done (reception-made o s u)))
+answer-made s (elapsed ms) = tested BadState refl (bad-told s) (done (carried false s _ refl))
+answer-made s take_leave = tested BadState refl (bad-told s) (done (carried false s _ refl))
+answer-made s take_status = tested BadState refl (bad-told s) (done (carried false s _ refl))
 
 lent-made : (t : ParentTimer) (ms : ℕ) (s : State) → Gets s (lent_tick t ms s).answer ((5, Bad s) ∷ [])
 unfolding lent_tick answer bad
 lent-made t ms s = go (bad-told s)
   where
     go : {b : Bool} → Tells (Bad s) b
-        → Gets s (cond b (lent_turned_down t s) (with_record (cond b (refuse 5 (with_timer t s)) (made (with_timer t s) (elapsed ms))))).answer ((5, Bad s) ∷ [])
-    go (holds h) = turned h refl
+        → Gets s (cond b (lent_turned_down t s) (with_record (cond b (refuse BadState (with_timer t s)) (made (with_timer t s) (elapsed ms))))).answer ((5, Bad s) ∷ [])
+    go (holds h) = turned BadState refl h refl
     go (fails h) = passed h (done (carried false (with_timer t s) _ refl))
 
 pub refresh-made : (s : State) → Gets s (refresh s) ((5, Bad s) ∷ [])
 unfolding refresh
-refresh-made s = tested (bad-told s) (done (carried false s _ refl))
+refresh-made s = tested BadState refl (bad-told s) (done (carried false s _ refl))
 
 -- the neighbour page
 page-made : (n : ℕ) (s : State) → Gets s (page_answer n s) ((5, Bad s) ∷ (6, n < 816) ∷ [])
 unfolding page_answer
-page-made n s = tested (bad-told s) (tested (above-told n 816) (done (carried false s _ refl)))
+page-made n s = tested BadState refl (bad-told s) (tested ShortPage refl (above-told n 816) (done (carried false s _ refl)))
 
 page-kept : (b : List ℕ) (s : State) → Bad s ⊎ (length b < 816) → page_left b s ≡ b
 unfolding page_left written
@@ -184,16 +181,16 @@ page-reads : (n : ℕ) (s : State) → (page_answer n s).state ≡ s
 unfolding page_answer finish refuse potential_cleared moved
 page-reads n s = go (bad s) (too_short n)
   where
-    go : (b t : Bool) → (cond b (refuse 5 s) (cond t (refuse 6 s) (deciding s (telling Step.PageWritten s.control)))).state ≡ s
+    go : (b t : Bool) → (cond b (refuse BadState s) (cond t (refuse ShortPage s) (deciding s (telling Step.PageWritten s.control)))).state ≡ s
     go true t = refl
     go false true = refl
     go false false = refl
 
 -- THE STATEMENT
 
--- the number of a refusal
+-- the number of the refusal that a step says
 abbrev number_of : Step → ℕ
-number_of (Step.Refused k) = k
+number_of (Step.Refused r) = refusal_number r
 number_of (Step.Ask r) = 0
 number_of Step.Discovered = 0
 number_of Step.DiscoveryFailed = 0
@@ -208,22 +205,22 @@ number_of (Step.StatusTaken x) = 0
 number_of Step.PageWritten = 0
 number_of Step.Done = 0
 
-turned_down : (s : State) (a : Answer) (k j : ℕ) → j ≡ k → a ≡ refuse j s → TurnedDown k s a
+turned_down : (s : State) (a : Answer) (k : ℕ) (r : Refusal) → refusal_number r ≡ k → a ≡ refuse r s → TurnedDown k s a
 unfolding refuse
-turned_down s a k j q e =
-    subst⁻¹ (λ (x : Answer). TurnedDown k s x) (e ∙ ap (λ (i : ℕ). refuse i s) q) (record { state = refl; step = refl; note = refl; reset = refl; polls = refl })
+turned_down s a k r q e =
+    subst⁻¹ (λ (x : Answer). TurnedDown k s x) e (record { refusal = r; number = q; state = refl; step = refl; note = refl; reset = refl; polls = refl })
 
 given : {s : State} {a : Answer} {cs : List (ℕ × Type 0)} → Gets s a cs → (k : ℕ) → First k cs → TurnedDown k s a
 given (done h) k f = absurd f
-given (turned h e) k (inl f) = turned_down _ _ k _ f.0 e
-given (turned h e) k (inr f) = absurd (f.0 h)
+given (turned r q h e) k (inl f) = turned_down _ _ k r (q ∙ f.0) e
+given (turned r q h e) k (inr f) = absurd (f.0 h)
 given (passed n g) k (inl f) = absurd (n f.1)
 given (passed n g) k (inr f) = given g k f.1
 
-only : {s : State} {a : Answer} {cs : List (ℕ × Type 0)} → Gets s a cs → (k : ℕ) → a.step ≡ Step.Refused k → First k cs
+only : {s : State} {a : Answer} {cs : List (ℕ × Type 0)} → Gets s a cs → (k : Refusal) → a.step ≡ Step.Refused k → First (refusal_number k) cs
 unfolding refuse
 only {a = a} (done h) k e = subst (λ (x : Step). Uses x a.polls_used) e h
-only (turned h q) k e = inl (sym (ap (λ (x : Answer). number_of x.step) q) ∙ ap number_of e, h)
+only (turned r n h q) k e = inl (sym n ∙ sym (ap (λ (x : Answer). number_of x.step) q) ∙ ap number_of e, h)
 only (passed n g) k e = inr (n, only g k e)
 
 by-numbers : {s : State} {a : Answer} {cs : List (ℕ × Type 0)} → Gets s a cs → Answered s cs a
@@ -237,34 +234,32 @@ kept t ms s h = go (bad-told s) _
     go (holds b) l = refl
     go (fails b) l = absurd (b h)
 
-choice : (n : ℕ) (router permit : Bool) (s : State) → (((choose n router permit s).refusal ≡ 5) ↔ Bad s) × (((choose n router permit s).refusal ≡ 0) ↔ (Bad s → ⊥))
+choice : (n : ℕ) (router permit : Bool) (s : State) → (Unchosen 5 (choose n router permit s) ↔ Bad s) × ((is_ok (choose n router permit s) ≡ true) ↔ (Bad s → ⊥))
 unfolding choose
-choice n router permit s = go (bad-told s) _ _ refl refl
+choice n router permit s = go (bad-told s) _
   where
-    go : {b : Bool} → Tells (Bad s) b → (x y : Choice) → x.refusal ≡ 5 → y.refusal ≡ 0 → (((cond b x y).refusal ≡ 5) ↔ Bad s) × (((cond b x y).refusal ≡ 0) ↔ (Bad s → ⊥))
-    go (holds h) x y p q = ((λ _. h, λ _. p), (λ e. omega arith, λ n. absurd (n h)))
-    go (fails h) x y p q = ((λ e. absurd (omega arith), λ b. absurd (h b)), (λ _. h, λ _. q))
+    go : {b : Bool} → Tells (Bad s) b → (l : CandidateList)
+        → (Unchosen 5 (cond b (Err BadState) (Ok l)) ↔ Bad s) × ((is_ok (cond b (Err BadState) (Ok l)) ≡ true) ↔ (Bad s → ⊥))
+    go (holds h) l = ((λ _. h, λ _. refl), (λ e. absurd (false≢true e), λ n. absurd (n h)))
+    go (fails h) l = ((λ e. absurd e, λ b. absurd (h b)), (λ _. h, λ _. refl))
 
-unchosen : (n : ℕ) (router permit : Bool) (s : State) → Bad s → (choose n router permit s).list.count ≡ 0
-unfolding choose
-unchosen n router permit s h = go (bad-told s) _ _ refl
-  where
-    go : {b : Bool} → Tells (Bad s) b → (x y : Choice) → x.list.count ≡ 0 → (cond b x y).list.count ≡ 0
-    go (holds b) x y e = e
-    go (fails b) x y e = absurd (b h)
+-- a refusal hands out no confirm
+unconfirmed : (r : Refusal) (o : Result PanDescriptorList MacError) → confirm_by (Step.Refused r) o ≡ None
+unconfirmed r (Err e) = refl
+unconfirmed r (Ok l) = refl
 
 pub demand-1 : Demand1
 unfolding scanned
 demand-1 =
     record {
+      numbered = refl;
       answered = λ s c. by-numbers (answer-made s c);
       confirmed = λ s o. by-numbers (answer-made s (scan o));
-      unconfirmed = λ s o k e. ap (λ (x : Step). (confirm_by x (descriptors_of o.list)).count) e;
+      unconfirmed = λ s o r e. ap (λ (x : Step). confirm_by x o) e ∙ unconfirmed r o;
       lent = λ t ms s. by-numbers (lent-made t ms s);
       refreshed = λ s. by-numbers (refresh-made s);
       record-kept = kept;
       choice = choice;
-      unchosen = unchosen;
       page = λ b s. by-numbers (page-made (length b) s);
       page-kept = page-kept;
       page-reads = page-reads;

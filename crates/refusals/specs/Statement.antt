@@ -1,21 +1,25 @@
 -- The statement of demand 1: "Any state, request, beacon list or outcome handed to a public entry gets the step made or one of the numbered refusals; after a
 -- refusal the state, and every lent buffer, is as handed in. No prior check is expected of the caller."
 -- The numbers, their order and their conditions stand here as 01 has them ("When a call is turned down").
--- They rest on no definition of a refusal or of its tests.
-use Rattle.std.specs.Prelude.{ℕ, suc, ◌-◌, ◌<◌, ◌≤◌, ◌≡◌, Bool, false, List, [], ◌∷◌, map, ◌⊎◌, ◌↔◌, length, take, drop}
+-- They rest on no definition of a refusal's tests; which refusal has which number stands here too (`numbered`).
+use Rattle.std.specs.Prelude.{Option, Some, None, Result, Ok, Err, is_ok, true, ℕ, suc, ◌-◌, ◌<◌, ◌≤◌, ◌≡◌, Bool, false, List, [], ◌∷◌, map, ◌⊎◌, ◌↔◌, length, take, drop}
 use Rattle.discovery.specs.declared.mlme.Address.{Address}
 use Rattle.supervision.specs.declared.parent_timer.ParentTimer.{ParentTimer}
 use Rattle.operation.specs.declared.Purpose.{Purpose}
 use Rattle.operation.specs.declared.ScanFor.{ScanFor}
 use Rattle.operation.specs.declared.TransmissionFor.{TransmissionFor}
 use Rattle.operation.specs.declared.Phase.{Phase}
-use Rattle.operation.specs.declared.Note.{Note}
+use Rattle.operation.specs.declared.Refusal.{Refusal}
+use Rattle.operation.specs.declared.Refusal.TheVariants.{OperationUnderWay, NotAwaited, TooManyDescriptors, TooManyShortAddressed, BadState, ShortPage}
+use Rattle.operation.specs.Operation.{refusal_number}
+use Rattle.candidates.specs.declared.CandidateList.{CandidateList}
 use Rattle.operation.specs.declared.Step.{Step}
 use Rattle.node.specs.Calls.{Call, discovery, join, send, poll, receive, timeout, scan, association, transmission, reception, elapsed, take_leave, take_status, answer, scanned, choose, refresh, page_answer, page_left}
 use Rattle.node.specs.declared.State.{State}
 use Rattle.node.specs.declared.Answer.{Answer}
-use Rattle.node.specs.declared.ScanOutcome.{ScanOutcome}
 use Rattle.lent_tick.specs.LentTick.{lent_tick}
+use Rattle.discovery.specs.declared.mlme.MacError.{MacError}
+use Rattle.discovery.specs.declared.mlme.PanDescriptorList.{PanDescriptorList}
 
 abbrev pub phase : State → Phase
 phase s = s.control.operation.phase
@@ -46,13 +50,14 @@ shorts [] = 0
 shorts (Address.Short pan address ∷ rest) = suc (shorts rest)
 shorts (Address.Extended pan address ∷ rest) = shorts rest
 
--- "for a scan, 3 above 27 descriptors, then 4 above 16 short-addressed ones".
--- A failed scan's list is not looked at: however long it is, that is neither 3 nor 4
-abbrev pub Above27 : ScanOutcome → Type 0
-Above27 o = (o.failed ≡ false) × (27 < o.list.count)
+-- "for a scan, 3 above 27 descriptors, then 4 above 16 short-addressed ones". A failed scan is neither 3 nor 4
+abbrev pub Above27 : Result PanDescriptorList MacError → Type 0
+Above27 (Err e) = ⊥
+Above27 (Ok l) = 27 < l.count
 
-abbrev pub Above16 : ScanOutcome → Type 0
-Above16 o = (o.failed ≡ false) × (16 < shorts (map (λ d. d.coord_address) (take o.list.count o.list.descriptors)))
+abbrev pub Above16 : Result PanDescriptorList MacError → Type 0
+Above16 (Err e) = ⊥
+Above16 (Ok l) = 16 < shorts (map (λ d. d.coord_address) (take l.count l.descriptors))
 
 -- the numbers that a call can give, each with its condition, in the order in which these are looked at.
 -- 2 "if no request awaits that kind"
@@ -76,31 +81,38 @@ abbrev pub First : ℕ → List (ℕ × Type 0) → Type 0
 First k [] = ⊥
 First k (c ∷ cs) = ((c.0 ≡ k) × c.1) ⊎ ((c.1 → ⊥) × First k cs)
 
--- turned down by k: the state is the one handed in, and nothing but the number is said
+-- turned down by k: the state is the one handed in, and nothing but the refusal with this number is said
 pub record TurnedDown (k : ℕ) (s : State) (a : Answer) : Type 0 where
+  pub refusal : Refusal
+  pub number : refusal_number refusal ≡ k
   pub state : a.state ≡ s
-  pub step : a.step ≡ Step.Refused k
-  pub note : a.note ≡ Note.NoNote
+  pub step : a.step ≡ Step.Refused refusal
+  pub note : a.note ≡ None
   pub reset : a.reset ≡ false
   pub polls : a.polls_used ≡ 0
 
 -- k is given if its condition is the first that holds, and only then; where none holds the step is made
 pub record Answered (s : State) (cs : List (ℕ × Type 0)) (a : Answer) : Type 0 where
   pub given : (k : ℕ) → First k cs → TurnedDown k s a
-  pub only : (k : ℕ) → a.step ≡ Step.Refused k → First k cs
+  pub only : (r : Refusal) → a.step ≡ Step.Refused r → First (refusal_number r) cs
 
--- the claim, of any call on any state; of the call that hands out a scan's confirm too, which is then empty;
+-- a choice of candidates is turned down by k
+abbrev pub Unchosen : ℕ → Result CandidateList Refusal → Type 0
+Unchosen k (Err r) = refusal_number r ≡ k
+Unchosen k (Ok l) = ⊥
+
+-- the claim, of any call on any state; of the call that hands out a scan's confirm too, which then hands out none;
 -- of the tick over a lent record ("State and lent buffers then stay as handed in");
--- and of the choice of candidates, which has no state to hand back, says 0 for none, and is empty where it is turned down
+-- and of the choice of candidates, which has no state to hand back, and has no list where it is turned down
 pub record Demand1 : Type 0 where
+  pub numbered : map refusal_number (OperationUnderWay ∷ NotAwaited ∷ TooManyDescriptors ∷ TooManyShortAddressed ∷ BadState ∷ ShortPage ∷ []) ≡ 1 ∷ 2 ∷ 3 ∷ 4 ∷ 5 ∷ 6 ∷ []
   pub answered : (s : State) (c : Call) → Answered s (numbers s c) (answer s c)
-  pub confirmed : (s : State) (o : ScanOutcome) → Answered s (numbers s (scan o)) (scanned o s).answer
-  pub unconfirmed : (s : State) (o : ScanOutcome) (k : ℕ) → (scanned o s).answer.step ≡ Step.Refused k → (scanned o s).confirm.count ≡ 0
+  pub confirmed : (s : State) (o : Result PanDescriptorList MacError) → Answered s (numbers s (scan o)) (scanned o s).answer
+  pub unconfirmed : (s : State) (o : Result PanDescriptorList MacError) (r : Refusal) → (scanned o s).answer.step ≡ Step.Refused r → (scanned o s).confirm ≡ None
   pub lent : (t : ParentTimer) (ms : ℕ) (s : State) → Answered s ((5, Bad s) ∷ []) (lent_tick t ms s).answer
   pub record-kept : (t : ParentTimer) (ms : ℕ) (s : State) → Bad s → (lent_tick t ms s).timer ≡ t
   pub choice : (n : ℕ) (router permit : Bool) (s : State)
-      → (((choose n router permit s).refusal ≡ 5) ↔ Bad s) × (((choose n router permit s).refusal ≡ 0) ↔ (Bad s → ⊥))
-  pub unchosen : (n : ℕ) (router permit : Bool) (s : State) → Bad s → (choose n router permit s).list.count ≡ 0
+      → (Unchosen 5 (choose n router permit s) ↔ Bad s) × ((is_ok (choose n router permit s) ≡ true) ↔ (Bad s → ⊥))
   -- the restart of the timer by the node's owner
   pub refreshed : (s : State) → Answered s ((5, Bad s) ∷ []) (refresh s)
   -- the neighbour page in a lent buffer b (02, L1): "6, a lent buffer shorter than 816 bytes, after 5".

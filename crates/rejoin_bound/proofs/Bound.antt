@@ -1,4 +1,5 @@
 -- A rejoin uses at most 698 outcomes: every accepted outcome lowers the measure of what is left, and no other call raises it. Assumes nothing.
+use Rattle.std.specs.Prelude.{Result, Ok, Err, Option, Some, None}
 use Prim.Native.Nat.{ℕ, suc, ◌+◌, ◌≤◌, zero-le}
 use mathlib.Core.Path.{◌≡◌, refl, sym, ap, subst, ◌∙◌}
 use mathlib.Core.Bool.{Bool, true, false, cond, not, ◌&&◌, false≢true}
@@ -9,7 +10,6 @@ use Rattle.discovery.specs.Mlme.{descriptors_of}
 use Rattle.nib.specs.Neighbors.{table_of}
 use Rattle.nib.specs.NeighborTable.{retained}
 use Rattle.nib.specs.declared.CapabilityInformation.{CapabilityInformation}
-use Rattle.nib.specs.declared.Neighbor.{Neighbor}
 use Rattle.discovery.specs.Discovery.{short_addressed}
 use Rattle.management.specs.declared.RejoinNetwork.{RejoinNetwork}
 use Rattle.management.specs.declared.NlmeJoinRequest.{NlmeJoinRequest}
@@ -17,7 +17,6 @@ use Rattle.management.specs.declared.NlmeJoinStatus.{NlmeJoinStatus}
 use Rattle.management.specs.declared.PollAnswer.{PollAnswer}
 use Rattle.nlme.specs.declared.Nlme.{Nlme}
 use Rattle.nlme.specs.Received.{handled}
-use Rattle.nlme.specs.declared.received.TableChange.{TableChange}
 use Rattle.nlme.specs.declared.received.Then.{Then}
 use Rattle.operation.specs.declared.Purpose.{Purpose}
 use Rattle.operation.specs.declared.ScanFor.{ScanFor}
@@ -32,17 +31,22 @@ use Rattle.operation.specs.declared.Move.{Move}
 use Rattle.operation.specs.declared.Decision.{Decision}
 use Rattle.operation.specs.Operation.{with_nlme, is_idle, scan_for, association_for, transmission_for, reception_for, telling, asking}
 use Rattle.join.specs.Join.{failing, associating, reset_negotiation, store_capabilities, join_started}
-use Rattle.join.specs.declared.association.AssociationOutcome.{AssociationOutcome}
 use Rattle.join.specs.Rejoin.{invalid, trying, try_remembered, begun, rejoin_started}
 use Rattle.node.specs.Looks.{with_table, entries, parent, next, broadcast, moved, potential_cleared, finish, deciding}
 use Rattle.node.specs.Refusals.{refuse, bad, outcome}
 use Rattle.node.specs.Calls.{with_chosen, associate, join_by, scan_failed, with_scan, scan_heard, scan_over, association_over, continuing, go_on, with_node, table_changed, after, taught_on, reception_over, after_leave, transmission_over, Call, discovery, join, send, poll, receive, timeout, scan, association, transmission, reception, elapsed, take_leave, take_status, made, answer}
 use Rattle.node.specs.declared.State.{State}
 use Rattle.node.specs.declared.Answer.{Answer}
-use Rattle.node.specs.declared.ScanOutcome.{ScanOutcome}
-use Rattle.node.specs.declared.ReceptionOutcome.{ReceptionOutcome}
 use Rattle.rejoin_bound.specs.Bound.{for_rejoin, in_rejoin, is_outcome, is_refused, accepted, outcomes, RejoinBound}
 use Rattle.rejoin_bound.proofs.Measure.{still, weight, measure, potential, potential-le, rest-false, either, Drops, drops, failing-drops, scan_or_end-drops, try_next-drops, answered_by-drops, request_sent-drops}
+use Rattle.nib.specs.declared.NwkNeighbor.{NwkNeighbor}
+use Rattle.discovery.specs.declared.mlme.MacError.{MacError}
+use Rattle.join.specs.declared.association.AssociationResponse.{AssociationResponse}
+use Rattle.management.specs.declared.frame.ReceivedFrame.{ReceivedFrame}
+use Rattle.discovery.specs.declared.mlme.PanDescriptorList.{PanDescriptorList}
+use Rattle.nib.specs.declared.ShortAddress.{ShortAddress}
+use Rattle.operation.specs.declared.Refusal.{Refusal}
+use Rattle.operation.specs.declared.Refusal.TheVariants.{OperationUnderWay, NotAwaited, TooManyDescriptors, TooManyShortAddressed, BadState}
 
 and-false : (b : Bool) → (b && false) ≡ false
 and-false true = refl
@@ -92,22 +96,22 @@ carried c reset s d h = spent c (finish reset s d) h.fits
 uncounted : {m : ℕ} (c : Call) (a : Answer) → accepted c a ≡ false → potential a.state ≤ m → Within m c a
 uncounted {m} c a q h = record { fits = subst (λ (b : Bool). cond b 1 0 + potential a.state ≤ m) (sym q) (omega arith) }
 
-refused : {m : ℕ} (c : Call) (k : ℕ) (s : State) → potential s ≤ m → Within m c (refuse k s)
+refused : {m : ℕ} (c : Call) (k : Refusal) (s : State) → potential s ≤ m → Within m c (refuse k s)
 unfolding refuse
 refused c k s h = uncounted c (refuse k s) refl h
 
 -- refusal 5
-guarded : (c : Call) (s : State) (a : Answer) → Within (measure s) c a → Within (potential s) c (cond (bad s) (refuse 5 s) a)
+guarded : (c : Call) (s : State) (a : Answer) → Within (measure s) c a → Within (potential s) c (cond (bad s) (refuse BadState s) a)
 unfolding potential
 guarded c s a h = go (bad s) refl
   where
-    go : (b : Bool) → bad s ≡ b → Within (cond b 0 (measure s)) c (cond b (refuse 5 s) a)
-    go true q = refused c 5 s (rw q zero-le)
+    go : (b : Bool) → bad s ≡ b → Within (cond b 0 (measure s)) c (cond b (refuse BadState s) a)
+    go true q = refused c BadState s (rw q zero-le)
     go false q = h
 
 module _ (s : State) where
   -- a refusal in phase p, which is the state's
-  turned_down : (c : Call) (k : ℕ) (p : Phase) → p ≡ s.control.operation.phase → Within (weight p s) c (refuse k s)
+  turned_down : (c : Call) (k : Refusal) (p : Phase) → p ≡ s.control.operation.phase → Within (weight p s) c (refuse k s)
   turned_down c k p q = subst (λ (x : Phase). Within (weight x s) c (refuse k s)) (sym q) (refused c k s (potential-le s))
 
   -- the polls go on
@@ -122,11 +126,11 @@ module _ (s : State) where
       let l : Leaving = record { purpose = Purpose.RejoinResponse; rejoin = a.rejoin } in
       carried c false s _ (drops s (asking (Phase.Transmission (TransmissionFor.Leave l)) (RadioRequest.Transmit a.transmission) s.control) (omega arith))
 
-changed-within : {m : ℕ} (c : Call) (s : State) (t : TableChange) (u : Then) → suc (suc (still s s.control.operation)) ≤ m
+changed-within : {m : ℕ} (c : Call) (s : State) (t : Option ShortAddress) (u : Then) → suc (suc (still s s.control.operation)) ≤ m
     → Within m c (after Purpose.RejoinResponse u (table_changed t s))
 unfolding table_changed
-changed-within c s TableChange.KeepTable u h = after-within s c u h
-changed-within c s (TableChange.RemoveNeighbor a) u h = after-within (with_table (table_of (retained a.0 (entries s))) s) c u h
+changed-within c s None u h = after-within s c u h
+changed-within c s (Some a) u h = after-within (with_table (table_of (retained a.0 (entries s))) s) c u h
 
 left-within : {m : ℕ} (c : Call) (s : State) (rejoin : Bool) → suc (still s s.control.operation) ≤ m
     → Within m c (go_on (not rejoin) Purpose.RejoinResponse PollAnswer.PollNothing (after_leave rejoin s))
@@ -135,60 +139,61 @@ left-within c s true h = go_on-within (after_leave true s) c false _ h
 left-within c s false h = go_on-within (after_leave false s) c true _ h
 
 module _ (s : State) where
-  received-within : (o : ReceptionOutcome) → Within (weight (Phase.Reception Purpose.RejoinResponse) s) (reception o) (reception_over o Purpose.RejoinResponse s)
+  received-within : (o : Result (Option ReceivedFrame) MacError) → Within (weight (Phase.Reception Purpose.RejoinResponse) s) (reception o) (reception_over o Purpose.RejoinResponse s)
   unfolding reception_over
-  received-within ReceptionOutcome.NoData = go_on-within s _ false _ (omega arith)
-  received-within ReceptionOutcome.ReceptionFailed = go_on-within s _ false _ (omega arith)
-  received-within (ReceptionOutcome.Received f) =
+  received-within (Ok None) = go_on-within s _ false _ (omega arith)
+  received-within (Err e) = go_on-within s _ false _ (omega arith)
+  received-within (Ok (Some f)) =
       let h = handled (parent (taught_on f s)) (broadcast (taught_on f s)) f s.control.nlme in
-      changed-within (reception (ReceptionOutcome.Received f)) (with_node h.nlme (taught_on f s)) h.change h.then (omega arith)
+      changed-within (reception (Ok (Some f))) (with_node h.nlme (taught_on f s)) h.removed h.then (omega arith)
 
-  scanned-within : (o : ScanOutcome) → Phase.Scan ScanFor.Rejoin ≡ s.control.operation.phase → Within (weight (Phase.Scan ScanFor.Rejoin) s) (scan o) (scan_over o ScanFor.Rejoin s)
+  scanned-within : (o : Result PanDescriptorList MacError) → Phase.Scan ScanFor.Rejoin ≡ s.control.operation.phase → Within (weight (Phase.Scan ScanFor.Rejoin) s) (scan o) (scan_over o ScanFor.Rejoin s)
   unfolding scan_over scan_failed scan_heard with_scan with_chosen
-  scanned-within o q =
-      let ds = descriptors_of o.list in
+  scanned-within (Err e) q = carried (scan (Err e)) false s _ (failing-drops s _ s.control (omega arith))
+  scanned-within (Ok l) q =
+      let o : Result PanDescriptorList MacError = Ok l in
+      let ds = descriptors_of l in
       let t = with_chosen false s.control.operation.extended_pan_id.0 s.control.nlme.nib.capability_information (with_scan ds s) in
-      either (Within _ (scan o)) o.failed (λ _. carried (scan o) false s _ (failing-drops s _ s.control (omega arith)))
-      (λ _. either (Within _ (scan o)) (ltb 27 o.list.count) (λ _. turned_down s (scan o) 3 (Phase.Scan ScanFor.Rejoin) q)
-      (λ _. either (Within _ (scan o)) (ltb 16 (short_addressed ds)) (λ _. turned_down s (scan o) 4 (Phase.Scan ScanFor.Rejoin) q)
-      (λ _. carried (scan o) false t _ (try_next-drops t _ (next t) s.control refl (omega arith) (λ _. omega arith)))))
+      either (Within _ (scan o)) (ltb 27 l.count) (λ _. turned_down s (scan o) TooManyDescriptors (Phase.Scan ScanFor.Rejoin) q)
+      (λ _. either (Within _ (scan o)) (ltb 16 (short_addressed ds)) (λ _. turned_down s (scan o) TooManyShortAddressed (Phase.Scan ScanFor.Rejoin) q)
+      (λ _. carried (scan o) false t _ (try_next-drops t _ (next t) s.control refl (omega arith) (λ _. omega arith))))
 
   -- each call in a phase of a rejoin, which is the state's: a start and the outcome of an association are refused
-  start-within : (c : Call) (a : Answer) {p : Phase} → Rejoining p → p ≡ s.control.operation.phase → Within (weight p s) c (cond (is_idle p) a (refuse 1 s))
-  start-within c a scanning q = turned_down s c 1 _ q
-  start-within c a sending q = turned_down s c 1 _ q
-  start-within c a (leaving rejoin) q = turned_down s c 1 _ q
-  start-within c a polling q = turned_down s c 1 _ q
+  start-within : (c : Call) (a : Answer) {p : Phase} → Rejoining p → p ≡ s.control.operation.phase → Within (weight p s) c (cond (is_idle p) a (refuse OperationUnderWay s))
+  start-within c a scanning q = turned_down s c OperationUnderWay _ q
+  start-within c a sending q = turned_down s c OperationUnderWay _ q
+  start-within c a (leaving rejoin) q = turned_down s c OperationUnderWay _ q
+  start-within c a polling q = turned_down s c OperationUnderWay _ q
 
-  scan-within : (o : ScanOutcome) {p : Phase} → Rejoining p → p ≡ s.control.operation.phase → Within (weight p s) (scan o) (outcome (scan_for p) (scan_over o) s)
+  scan-within : (o : Result PanDescriptorList MacError) {p : Phase} → Rejoining p → p ≡ s.control.operation.phase → Within (weight p s) (scan o) (outcome (scan_for p) (scan_over o) s)
   unfolding outcome
   scan-within o scanning q = scanned-within o q
-  scan-within o sending q = turned_down s (scan o) 2 _ q
-  scan-within o (leaving rejoin) q = turned_down s (scan o) 2 _ q
-  scan-within o polling q = turned_down s (scan o) 2 _ q
+  scan-within o sending q = turned_down s (scan o) NotAwaited _ q
+  scan-within o (leaving rejoin) q = turned_down s (scan o) NotAwaited _ q
+  scan-within o polling q = turned_down s (scan o) NotAwaited _ q
 
-  association-within : (o : AssociationOutcome) {p : Phase} → Rejoining p → p ≡ s.control.operation.phase
+  association-within : (o : Result AssociationResponse MacError) {p : Phase} → Rejoining p → p ≡ s.control.operation.phase
       → Within (weight p s) (association o) (outcome (association_for p) (association_over o) s)
   unfolding outcome
-  association-within o scanning q = turned_down s (association o) 2 _ q
-  association-within o sending q = turned_down s (association o) 2 _ q
-  association-within o (leaving rejoin) q = turned_down s (association o) 2 _ q
-  association-within o polling q = turned_down s (association o) 2 _ q
+  association-within o scanning q = turned_down s (association o) NotAwaited _ q
+  association-within o sending q = turned_down s (association o) NotAwaited _ q
+  association-within o (leaving rejoin) q = turned_down s (association o) NotAwaited _ q
+  association-within o polling q = turned_down s (association o) NotAwaited _ q
 
   transmission-within : (ok : Bool) {p : Phase} → Rejoining p → p ≡ s.control.operation.phase
       → Within (weight p s) (transmission ok) (outcome (transmission_for p) (transmission_over ok) s)
   unfolding outcome transmission_over
-  transmission-within ok scanning q = turned_down s (transmission ok) 2 _ q
+  transmission-within ok scanning q = turned_down s (transmission ok) NotAwaited _ q
   transmission-within ok sending q = carried (transmission ok) false s _ (request_sent-drops s ok (parent s) s.control (omega arith))
   transmission-within ok (leaving rejoin) q = left-within (transmission ok) s rejoin (omega arith)
-  transmission-within ok polling q = turned_down s (transmission ok) 2 _ q
+  transmission-within ok polling q = turned_down s (transmission ok) NotAwaited _ q
 
-  reception-within : (o : ReceptionOutcome) {p : Phase} → Rejoining p → p ≡ s.control.operation.phase
+  reception-within : (o : Result (Option ReceivedFrame) MacError) {p : Phase} → Rejoining p → p ≡ s.control.operation.phase
       → Within (weight p s) (reception o) (outcome (reception_for p) (reception_over o) s)
   unfolding outcome
-  reception-within o scanning q = turned_down s (reception o) 2 _ q
-  reception-within o sending q = turned_down s (reception o) 2 _ q
-  reception-within o (leaving rejoin) q = turned_down s (reception o) 2 _ q
+  reception-within o scanning q = turned_down s (reception o) NotAwaited _ q
+  reception-within o sending q = turned_down s (reception o) NotAwaited _ q
+  reception-within o (leaving rejoin) q = turned_down s (reception o) NotAwaited _ q
   reception-within o polling q = received-within o
 
   -- a tick or a taking changes the node's own part only
@@ -235,20 +240,20 @@ record Starts (a : Answer) : Type 0 where
 starts : (s : State) (d : Decision) → Drops 699 s d → Starts (finish false s d)
 starts s d h = record { fits = omega (arith, h.fits) }
 
-try_remembered-drops : (s : State) (parent : Neighbor) (c : Control) → c.operation.scan_requested ≡ false → Drops 699 s (try_remembered parent c)
+try_remembered-drops : (s : State) (parent : Option NwkNeighbor) (c : Control) → c.operation.scan_requested ≡ false → Drops 699 s (try_remembered parent c)
 unfolding try_remembered trying finish moved potential_cleared
-try_remembered-drops s Neighbor.Absent c q = scan_or_end-drops s NlmeJoinStatus.InvalidRequest c (omega arith)
-try_remembered-drops s (Neighbor.Entry p) c q = drops s (trying Move.Stay Note.NoNote p c) (omega (arith, rest-false c.operation.scan_requested s.candidates.taken q))
+try_remembered-drops s None c q = scan_or_end-drops s NlmeJoinStatus.InvalidRequest c (omega arith)
+try_remembered-drops s (Some p) c q = drops s (trying Move.Stay None p c) (omega (arith, rest-false c.operation.scan_requested s.candidates.taken q))
 
-rejoin_started-drops : (s : State) (r : NlmeJoinRequest) (parent : Neighbor) (c : Control) → Drops 699 s (rejoin_started r parent c)
+rejoin_started-drops : (s : State) (r : NlmeJoinRequest) (parent : Option NwkNeighbor) (c : Control) → Drops 699 s (rejoin_started r parent c)
 unfolding rejoin_started
 rejoin_started-drops s r parent c =
     either (Drops 699 s) (invalid r c.nlme) (λ _. failing-drops s NlmeJoinStatus.InvalidRequest c (omega arith)) (λ _. try_remembered-drops s parent (begun r c) refl)
 
-join_started-drops : (s : State) (i : CapabilityInformation) (next : Neighbor) (c : Control) → Drops 699 s (join_started i next c)
+join_started-drops : (s : State) (i : CapabilityInformation) (next : Option NwkNeighbor) (c : Control) → Drops 699 s (join_started i next c)
 unfolding join_started associating finish moved potential_cleared
-join_started-drops s i Neighbor.Absent c = failing-drops s NlmeJoinStatus.NotPermitted (reset_negotiation c) (omega arith)
-join_started-drops s i (Neighbor.Entry e) c = drops s (associating e (store_capabilities i (reset_negotiation c))) (omega arith)
+join_started-drops s i None c = failing-drops s NlmeJoinStatus.NotPermitted (reset_negotiation c) (omega arith)
+join_started-drops s i (Some e) c = drops s (associating e (store_capabilities i (reset_negotiation c))) (omega arith)
 
 invalid-starts : (s : State) → Starts (deciding s (failing NlmeJoinStatus.InvalidRequest s.control))
 invalid-starts s = starts s _ (failing-drops s NlmeJoinStatus.InvalidRequest s.control (omega arith))

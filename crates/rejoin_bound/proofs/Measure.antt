@@ -1,4 +1,5 @@
 -- A measure of what is left of a rejoin, and that every decision of a rejoin lowers it. Assumes nothing.
+use Rattle.std.specs.Prelude.{Option, Some, None}
 use Prim.Native.Nat.{ℕ, suc, ◌+◌, ◌-◌, ◌*◌, ◌<◌, ◌≤◌, zero-le}
 use mathlib.Core.Path.{◌≡◌, refl, sym, ap, subst, subst⁻¹, ◌∙◌}
 use mathlib.Core.Bool.{Bool, true, false, cond, false≢true}
@@ -10,12 +11,10 @@ use borrow.Author.Tests.{ltb-true, ltb-false, eqb-false}
 use Rattle.lists.proofs.Conditions.{split, neither}
 use Rattle.nib.specs.Neighbors.{entry_at, blank}
 use Rattle.nib.specs.declared.NwkNeighbor.{NwkNeighbor}
-use Rattle.nib.specs.declared.Neighbor.{Neighbor}
 use Rattle.nib.specs.NeighborTable.{seen_in}
 use Rattle.nib.proofs.Entries.{entries-on, adopted-long}
 use Rattle.candidates.specs.Candidates.{items_of}
 use Rattle.management.specs.declared.NlmeJoinStatus.{NlmeJoinStatus}
-use Rattle.management.specs.declared.RejoinResponseSlot.{RejoinResponseSlot}
 use Rattle.operation.specs.declared.Purpose.{Purpose}
 use Rattle.operation.specs.declared.ScanFor.{ScanFor}
 use Rattle.operation.specs.declared.TransmissionFor.{TransmissionFor}
@@ -34,6 +33,7 @@ use Rattle.candidates.specs.declared.tries.Candidates.{Candidates}
 use Rattle.node.specs.Looks.{entries, next, moved, potential_cleared, finish}
 use Rattle.node.specs.Refusals.{bad}
 use Rattle.node.specs.declared.State.{State}
+use Rattle.management.specs.declared.RejoinResponse.{RejoinResponse}
 
 -- THE MEASURE
 
@@ -113,14 +113,14 @@ either P false f g = g refl
 
 -- where there is a next candidate, one more is taken
 
-abbrev IsEntry : Neighbor → Type 0
-IsEntry Neighbor.Absent = ⊥
-IsEntry (Neighbor.Entry e) = Unit {0}
+abbrev IsEntry : Option NwkNeighbor → Type 0
+IsEntry None = ⊥
+IsEntry (Some e) = Unit {0}
 
 entry-below : (es : List NwkNeighbor) (i : ℕ) → IsEntry (seen_in es (entry_at es i)) → i < length es
 entry-below es i h = go (ltb i (length es)) refl h
   where
-    go : (b : Bool) → ltb i (length es) ≡ b → IsEntry (seen_in es (cond b (Neighbor.Entry (get_or es i blank)) Neighbor.Absent)) → i < length es
+    go : (b : Bool) → ltb i (length es) ≡ b → IsEntry (seen_in es (cond b (Some (get_or es i blank)) None)) → i < length es
     go true q h = ltb-true i (length es) q
     go false q h = absurd h
 
@@ -167,11 +167,11 @@ module _ {m : ℕ} (s : State) where
       (λ _. drops s (asking (Phase.Scan ScanFor.Rejoin) (RadioRequest.Scan c.operation.scan) (with_operation (with_scan_requested c.operation) c)) h)
 
   -- the next candidate is tried, of those that the state has
-  pub try_next-drops : (st : NlmeJoinStatus) (x : Neighbor) (c : Control) → x ≡ next s → 1 ≤ m
+  pub try_next-drops : (st : NlmeJoinStatus) (x : Option NwkNeighbor) (c : Control) → x ≡ next s → 1 ≤ m
       → (s.candidates.taken < 16 → 42 + rest c.operation.scan_requested (suc s.candidates.taken) ≤ m) → Drops m s (try_next st x c)
   unfolding try_next try_candidate trying finish moved potential_cleared
-  try_next-drops st Neighbor.Absent c q l h = failing-drops st c l
-  try_next-drops st (Neighbor.Entry e) c q l h =
+  try_next-drops st None c q l h = failing-drops st c l
+  try_next-drops st (Some e) c q l h =
       drops-if s (try_candidate e c) l
       (λ b. let after = (finish false s (try_candidate e c)).state in
       let more : suc s.candidates.taken ≤ after.candidates.taken = adopted-more s (subst IsEntry q tt) in
@@ -184,22 +184,22 @@ module _ {m : ℕ} (s : State) where
       (λ q. try_next-drops st (next s) c refl (omega arith) (λ l. omega (arith, rest-true c.operation.scan_requested s.candidates.taken q l)))
       (λ q. scan_or_end-drops st c (omega (arith, rest-false c.operation.scan_requested s.candidates.taken q)))
 
-  polls-drop : (p : Neighbor) (c : Control) → suc (still s c.operation) ≤ m → Drops m s (poll_on Purpose.RejoinResponse p (try_failed NlmeJoinStatus.MacError (next s)) c)
+  polls-drop : (p : Option NwkNeighbor) (c : Control) → suc (still s c.operation) ≤ m → Drops m s (poll_on Purpose.RejoinResponse p (try_failed NlmeJoinStatus.MacError (next s)) c)
   unfolding polling poll_on finish moved potential_cleared
-  polls-drop Neighbor.Absent c h = try_failed-drops _ (with_polls_left 0 c) (omega arith)
-  polls-drop (Neighbor.Entry p) c h =
+  polls-drop None c h = try_failed-drops _ (with_polls_left 0 c) (omega arith)
+  polls-drop (Some p) c h =
       either (λ (x : Polling). Drops m s (polled_or Purpose.RejoinResponse (try_failed NlmeJoinStatus.MacError (next s)) x.parent x.control)) (eqb c.operation.polls_left 0)
       (λ _. try_failed-drops _ c (omega arith))
       (λ q. drops s (polled Purpose.RejoinResponse p (with_polls_left (c.operation.polls_left - 1) c)) (omega (arith, eqb-false c.operation.polls_left 0 q)))
 
-  pub answered_by-drops : (a : RejoinResponseSlot) (p : Neighbor) (c : Control) → suc (still s c.operation) ≤ m → Drops m s (answered_by a p (next s) c)
+  pub answered_by-drops : (a : Option RejoinResponse) (p : Option NwkNeighbor) (c : Control) → suc (still s c.operation) ≤ m → Drops m s (answered_by a p (next s) c)
   unfolding answered_by responded rejoined finish moved potential_cleared
-  answered_by-drops (RejoinResponseSlot.HasRejoinResponse r) p c h =
+  answered_by-drops (Some r) p c h =
       either (Drops m s) (eqb r.status 0) (λ _. drops s (rejoined r (with_nlme (no_response c.nlme) c)) (omega arith))
       (λ _. try_failed-drops (failed_status r.status) (with_nlme (no_response c.nlme) c) (omega arith))
-  answered_by-drops RejoinResponseSlot.NoRejoinResponse p c h = polls-drop p c h
+  answered_by-drops None p c h = polls-drop p c h
 
-  pub request_sent-drops : (ok : Bool) (p : Neighbor) (c : Control) → suc (still s c.operation) ≤ m → Drops m s (request_sent ok p (next s) c)
+  pub request_sent-drops : (ok : Bool) (p : Option NwkNeighbor) (c : Control) → suc (still s c.operation) ≤ m → Drops m s (request_sent ok p (next s) c)
   unfolding request_sent
   request_sent-drops true p c h = answered_by-drops c.nlme.signals.rejoin_response p c h
   request_sent-drops false p c h = try_failed-drops _ c (omega arith)

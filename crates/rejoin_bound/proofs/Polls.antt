@@ -35,7 +35,7 @@ uses-asked Step.Done n h = h
 answer-asked : {s : State} {a : Answer} {cs : List (ℕ × Type 0)} → Gets s a cs → a.polls_used ≡ polls_asked a.step
 unfolding refuse
 answer-asked {a = a} (done h) = uses-asked a.step a.polls_used h
-answer-asked (turned h e) = subst⁻¹ (λ (x : Answer). x.polls_used ≡ polls_asked x.step) e refl
+answer-asked (turned r n h e) = subst⁻¹ (λ (x : Answer). x.polls_used ≡ polls_asked x.step) e refl
 answer-asked (passed n g) = answer-asked g
 
 by_call : (s : State) (c : Call) → (answer s c).polls_used ≡ polls_asked (answer s c).step

@@ -1,4 +1,5 @@
 -- A rejoin of 698 outcomes, computed. Assumes nothing.
+use Rattle.std.specs.Prelude.{Some, Ok, None}
 use Prim.Native.Nat.{ℕ, zero, suc}
 use mathlib.Core.Path.{refl}
 use mathlib.Core.Bool.{true, false}
@@ -8,7 +9,6 @@ use Rattle.nib.specs.Identifiers.{link_cost}
 use Rattle.nib.specs.Neighbors.{table_of}
 use Rattle.nib.specs.declared.NwkNeighbor.{NwkNeighbor}
 use Rattle.nib.specs.declared.DeviceType.TheVariants.{Router}
-use Rattle.nib.specs.declared.OptionalIeee.TheVariants.{NoIeee}
 use Rattle.nib.specs.NeighborTable.{parent_of, on_entries, adopted, marked}
 use Rattle.discovery.specs.declared.mlme.PanDescriptor.{PanDescriptor}
 use Rattle.discovery.specs.declared.mlme.Address.TheVariants.{Short}
@@ -18,10 +18,6 @@ use Rattle.candidates.specs.Candidates.{list_of, eligible, candidates}
 use Rattle.candidates.specs.Tries.{parent_in, skipped, next_index, next_in, taking, adopted_next}
 use Rattle.management.specs.declared.RejoinNetwork.TheVariants.{NwkRejoin}
 use Rattle.management.specs.declared.NlmeJoinRequest.{NlmeJoinRequest}
-use Rattle.management.specs.declared.RejoinResponseSlot.TheVariants.{NoRejoinResponse}
-use Rattle.management.specs.declared.TimeoutResponseSlot.TheVariants.{NoTimeoutResponse}
-use Rattle.management.specs.declared.LeaveIndicationSlot.TheVariants.{NoLeaveIndication}
-use Rattle.management.specs.declared.StatusIndicationSlot.TheVariants.{NoStatusIndication}
 use Rattle.management.specs.declared.frame.ReceivedFrame.TheVariants.{LeaveCommand}
 use Rattle.nlme.specs.Nlme.{negotiation_reset}
 use Rattle.nlme.specs.Received.{taught_by, taught, accepts_leave, leave_requested, leave_handled, handled, left_for, leave_announced}
@@ -32,7 +28,6 @@ use Rattle.node.specs.Looks.{moved, potential_cleared, finish}
 use Rattle.node.specs.Refusals.{bad, outcome}
 use Rattle.node.specs.Calls.{with_chosen, join_by, with_scan, scan_heard, scan_over, continuing, table_changed, after, reception_over, after_leave, transmission_over, Call, scan, transmission, reception, answer}
 use Rattle.node.specs.declared.State.{State}
-use Rattle.node.specs.declared.ReceptionOutcome.TheVariants.{Received}
 use Rattle.rejoin_bound.specs.Bound.{BoundReached}
 
 -- a router that allows leave requests and remembers its parent
@@ -82,10 +77,10 @@ lost =
           pending_timeout_request = 255;
           parent_timer = record { remaining_ms = 0 };
           signals = record {
-            rejoin_response = NoRejoinResponse;
-            timeout_response = NoTimeoutResponse;
-            leave_indication = NoLeaveIndication;
-            nwk_status_indication = NoStatusIndication;
+            rejoin_response = None;
+            timeout_response = None;
+            leave_indication = None;
+            nwk_status_indication = None;
           };
           transmit_failures = record { pairs = replicate 16 (record { address = record { 0 = 0 }; count = 0 }); count = 0 };
         };
@@ -130,14 +125,15 @@ beacons zero = []
 beacons (suc n) = beacon (suc n) ∷ beacons n
 
 abbrev heard_beacons : Call
-heard_beacons = scan (record { failed = false; list = record { descriptors = beacons 27; count = 16 } })
+heard_beacons = scan (Ok (record { descriptors = beacons 27; count = 16 }))
 
 -- each poll brings a leave request that is announced
 abbrev leave_request : Call
 leave_request =
     reception
-    (Received
-    (LeaveCommand (record { address = record { 0 = 7 }; ieee = NoIeee }) (record { 0 = 9 }) (record { request = true; rejoin = true; remove_children = false })))
+    (Ok
+    (Some
+    (LeaveCommand (record { address = record { 0 = 7 }; ieee = None }) (record { 0 = 9 }) (record { request = true; rejoin = true; remove_children = false }))))
 
 abbrev times : ℕ → List Call → List Call
 times zero l = []

@@ -1,8 +1,8 @@
 // Parent supervision: the negotiated timeout, keepalives, and the count of failed sends.
 #![tactic(auto)]
 
-ghost use Rattle.std.specs.Prelude.{◌≡◌, ◌+◌, ◌<◌, [], length, get_or, set};
-ghost use Rattle.lists.specs.Lists.{first_index, change_at};
+ghost use Rattle.std.specs.Prelude.{◌≡◌, ◌+◌, ◌<◌, ◌≤◌, [], length, position, get_or, set};
+ghost use Rattle.lists.specs.Lists.{change_at};
 ghost use Rattle.lists.specs.Private.{remove_at};
 ghost use Rattle.supervision.specs.Timeouts.{timeout_seconds, negotiated_timeout_ms, refreshed};
 ghost use Rattle.supervision.specs.Keepalive.{keepalive_interval_ms, offered, keepalive_method, negotiated_poll_interval_ms};
@@ -13,62 +13,44 @@ pub mod parent_timer;
 use crate::parent_timer::ParentTimer;
 use nib::{MAX_NEIGBOUR_TABLE, ShortAddress};
 
-// A period of time, in the unit that its function names, or none.
-#[derive(Clone, Copy)]
-pub enum OptionalPeriod {
-    NoPeriod,
-    Period(u32),
-}
-
 // The timeout of an index, in seconds.
-pub fn timeout_seconds(index: u8) -> OptionalPeriod
+#[tactic(auto, unfolding(crate::specs::Timeouts::timeout_seconds))]
+pub fn timeout_seconds(index: u8) -> Option<u32>
     ensures { result ≡ timeout_seconds index }
 {
-    if index == 0 {
-        return OptionalPeriod::Period(10);
+    match index {
+        0 => Some(10),
+        1..=14 => Some(120 << (index - 1)),
+        _ => None,
     }
-    if 14 < index {
-        return OptionalPeriod::NoPeriod;
-    }
-    let doublings = index - 1;
-    let seconds = 120 << doublings as u32;
-    OptionalPeriod::Period(seconds)
 }
 
 // The negotiated timeout in milliseconds.
-pub fn negotiated_timeout_ms(end_device_timeout: u8) -> OptionalPeriod
+#[tactic(auto, unfolding(crate::specs::Timeouts::negotiated_timeout_ms), using(crate::proofs::Periods::seconds_most))]
+pub fn negotiated_timeout_ms(end_device_timeout: u8) -> Option<u32>
     ensures { result ≡ negotiated_timeout_ms end_device_timeout }
 {
-    let timeout = timeout_seconds(end_device_timeout);
-    match timeout {
-        OptionalPeriod::NoPeriod => OptionalPeriod::NoPeriod,
-        OptionalPeriod::Period(seconds) => {
-            let ms = seconds * 1000;
-            OptionalPeriod::Period(ms)
-        }
-    }
+    let seconds = timeout_seconds(end_device_timeout)?;
+    Some(seconds * 1000)
 }
 
 // The parent timer as it is restarted: inactive where no timeout was negotiated.
+#[tactic(auto, unfolding(crate::specs::Timeouts::refreshed))]
 pub fn refresh_parent_timeout(end_device_timeout: u8) -> ParentTimer
     ensures { result ≡ refreshed end_device_timeout }
 {
     let timeout = negotiated_timeout_ms(end_device_timeout);
-    match timeout {
-        OptionalPeriod::NoPeriod => ParentTimer { remaining_ms: 0 },
-        OptionalPeriod::Period(ms) => ParentTimer { remaining_ms: ms },
+    ParentTimer {
+        remaining_ms: timeout.unwrap_or(0),
     }
 }
 
 // The interval between keepalives in milliseconds: three in each timeout.
-pub fn keepalive_interval_ms(end_device_timeout: u8) -> OptionalPeriod
+#[tactic(auto, unfolding(crate::specs::Keepalive::keepalive_interval_ms))]
+pub fn keepalive_interval_ms(end_device_timeout: u8) -> Option<u32>
     ensures { result ≡ keepalive_interval_ms end_device_timeout }
 {
-    let timeout = negotiated_timeout_ms(end_device_timeout);
-    match timeout {
-        OptionalPeriod::NoPeriod => OptionalPeriod::NoPeriod,
-        OptionalPeriod::Period(ms) => OptionalPeriod::Period(ms / 3),
-    }
+    negotiated_timeout_ms(end_device_timeout).map(|ms| ms / 3)
 }
 
 // The keepalive that the parent expects; the source's `None` is `NoKeepalive`.
@@ -80,6 +62,7 @@ pub enum KeepaliveMethod {
 }
 
 // The method that the parent information names.
+#[tactic(auto, unfolding(crate::specs::Keepalive::offered))]
 fn offered_method(parent_information: u8) -> KeepaliveMethod
     ensures { result ≡ offered parent_information }
 {
@@ -93,28 +76,28 @@ fn offered_method(parent_information: u8) -> KeepaliveMethod
 }
 
 // The keepalive method; none without a negotiated timeout.
+#[tactic(auto, unfolding(crate::specs::Keepalive::keepalive_method))]
 pub fn keepalive_method(end_device_timeout: u8, parent_information: u8) -> KeepaliveMethod
     ensures { result ≡ keepalive_method end_device_timeout parent_information }
 {
-    let timeout = timeout_seconds(end_device_timeout);
-    match timeout {
-        OptionalPeriod::NoPeriod => KeepaliveMethod::NoKeepalive,
-        OptionalPeriod::Period(_) => offered_method(parent_information),
+    match timeout_seconds(end_device_timeout) {
+        None => KeepaliveMethod::NoKeepalive,
+        Some(_) => offered_method(parent_information),
     }
 }
 
 // The interval between polls in milliseconds, where polls are the keepalive.
-pub fn negotiated_poll_interval_ms(end_device_timeout: u8, parent_information: u8) -> OptionalPeriod
+#[tactic(auto, unfolding(crate::specs::Keepalive::negotiated_poll_interval_ms))]
+pub fn negotiated_poll_interval_ms(end_device_timeout: u8, parent_information: u8) -> Option<u32>
     ensures { result ≡ negotiated_poll_interval_ms end_device_timeout parent_information }
 {
-    let method = keepalive_method(end_device_timeout, parent_information);
-    match method {
+    match keepalive_method(end_device_timeout, parent_information) {
         KeepaliveMethod::MacDataPoll => keepalive_interval_ms(end_device_timeout),
-        KeepaliveMethod::TimeoutRequest => OptionalPeriod::NoPeriod,
-        KeepaliveMethod::NoKeepalive => OptionalPeriod::NoPeriod,
+        KeepaliveMethod::TimeoutRequest | KeepaliveMethod::NoKeepalive => None,
     }
 }
 
+// How many failures without a success between them are a failure of the link.
 pub const MAX_PARENT_TRANSMIT_FAILURES: u8 = 3;
 
 // A neighbour, and how many data sends through it failed since the last that succeeded.
@@ -143,149 +126,105 @@ impl TransmitFailures {
         let pairs = [none; MAX_NEIGBOUR_TABLE as usize];
         TransmitFailures { pairs, count: 0 }
     }
+
+    // The pairs in use: all 16 where the count says more.
+    fn in_use(&self) -> &[TransmitFailure]
+        ensures pairs { result.now ≡ pairs_of self.now }
+        ensures few { length result.now ≤ 16 }
+    {
+        lists::in_use(&self.pairs, self.count as usize)
+    }
+
+    // The place of the first pair of an address.
+    fn find(&self, neighbor: ShortAddress) -> Option<usize>
+        ensures { result ≡ position (of_address neighbor) (pairs_of self.now) }
+    {
+        self.in_use().iter().position(|p| p.address == neighbor)
+    }
+
+    // One pair more behind those in use.
+    fn push(&mut self, p: TransmitFailure)
+        requires { self.old.count < 16 }
+        ensures { self.new ≡ record { pairs = set self.old.pairs self.old.count p; count = self.old.count + 1 } }
+    {
+        self.pairs[self.count as usize] = p;
+        self.count += 1;
+    }
+
+    // The pairs without the one at a place; all of them where none is there. Unused slots are blank.
+    fn without(&self, place: usize) -> TransmitFailures
+        ensures { result ≡ failures_of (remove_at place (pairs_of self.now)) }
+    {
+        let mut out = TransmitFailures::new();
+        for (i, p) in self.in_use().iter().enumerate() {
+            if i != place {
+                out.push(*p);
+            }
+        }
+        out
+    }
+
+    // The pairs in use, with blank slots behind them: no pair stands at the place behind the last.
+    fn blank_unused(&self) -> TransmitFailures
+        ensures { result ≡ failures_of (pairs_of self.now) }
+    {
+        self.without(self.in_use().len())
+    }
+
+    // The pair at a place counts one failure more; a count of 255 stays.
+    fn count_at(&self, place: usize) -> Recorded
+        requires { place < length (pairs_of self.now) }
+        ensures { result ≡ record {
+          failures = failures_of (change_at place counted_once (pairs_of self.now));
+          total = one_more (get_or (pairs_of self.now) place blank_pair).count;
+        } }
+    {
+        let mut failures = self.blank_unused();
+        let total = failures.pairs[place].count.saturating_add(1);
+        failures.pairs[place].count = total;
+        Recorded { failures, total }
+    }
+
+    // The pairs with room for one more: of 16 the oldest goes.
+    fn with_room(&self) -> TransmitFailures
+        ensures pairs { result ≡ failures_of (with_room (pairs_of self.now)) }
+        ensures room { result.count < 16 }
+    {
+        if self.in_use().len() < self.pairs.len() {
+            self.blank_unused()
+        } else {
+            self.without(0)
+        }
+    }
 }
 
-// The pairs after one more failure, and the neighbour's count.
+// The pairs after one more failure, and the neighbour's count. Both always stand, so this is no Option.
 #[derive(Clone, Copy)]
 pub struct Recorded {
     pub failures: TransmitFailures,
     pub total: u8,
 }
 
-// The pairs after a failed send, and whether the link counts as failed.
+// The pairs after a failed send, and whether the link counts as failed. Both always stand, so this is no Option.
 #[derive(Clone, Copy)]
 pub struct FailedSend {
     pub failures: TransmitFailures,
     pub link_failed: bool,
 }
 
-// How many pairs are in use: 16 where the count says more.
-fn in_use(failures: TransmitFailures) -> u8
-    ensures { result ≡ length (pairs_of failures) }
-{
-    let count = failures.count;
-    if count <= MAX_NEIGBOUR_TABLE {
-        count
-    } else {
-        MAX_NEIGBOUR_TABLE
-    }
-}
-
-// The place of the first pair of an address, or how many are in use where there is none.
-fn find(failures: TransmitFailures, neighbor: ShortAddress) -> u8
-    ensures { result ≡ first_index (of_address neighbor) (pairs_of failures) }
-{
-    let used = in_use(failures);
-    let mut i: u8 = 0;
-    while i < used {
-        let at = i as usize;
-        let p = failures.pairs[at];
-        if p.address.0 == neighbor.0 {
-            return i;
-        }
-        i += 1;
-    }
-    used
-}
-
-// One pair more behind those in use.
-fn push(failures: TransmitFailures, p: TransmitFailure) -> TransmitFailures
-    requires { failures.count < 16 }
-    ensures { result ≡ record { pairs = set failures.pairs failures.count p; count = failures.count + 1 } }
-{
-    let count = failures.count;
-    let mut out = failures;
-    let at = count as usize;
-    out.pairs[at] = p;
-    out.count = count + 1;
-    out
-}
-
-// The pairs without the one at a place; all of them where none is there. Unused slots are blank.
-fn without(failures: TransmitFailures, place: u8) -> TransmitFailures
-    ensures { result ≡ failures_of (remove_at place (pairs_of failures)) }
-{
-    let used = in_use(failures);
-    let none = TransmitFailure {
-        address: ShortAddress(0),
-        count: 0,
-    };
-    let pairs = [none; MAX_NEIGBOUR_TABLE as usize];
-    let mut out = TransmitFailures { pairs, count: 0 };
-    let mut i: u8 = 0;
-    while i < used {
-        if i != place {
-            let at = i as usize;
-            let p = failures.pairs[at];
-            out = push(out, p);
-        }
-        i += 1;
-    }
-    out
-}
-
-// The pairs in use, with blank slots behind them. Nothing stands at the place behind the last pair, so none is removed.
-fn blank_unused(failures: TransmitFailures) -> TransmitFailures
-    ensures { result ≡ failures_of (pairs_of failures) }
-{
-    let used = in_use(failures);
-    without(failures, used)
-}
-
-// One failure more; a count of 255 stays.
-fn one_more(n: u8) -> u8
-    ensures { result ≡ one_more n }
-{
-    if n == 255 { n } else { n + 1 }
-}
-
-// The pair at a place counts one failure more.
-fn count_at(failures: TransmitFailures, place: u8) -> Recorded
-    requires { place < length (pairs_of failures) }
-    ensures { result ≡ record { failures = failures_of (change_at place counted_once (pairs_of failures)); total = one_more (get_or (pairs_of failures) place blank_pair).count } }
-{
-    let at = place as usize;
-    let mut p = failures.pairs[at];
-    let total = one_more(p.count);
-    p.count = total;
-    let mut out = blank_unused(failures);
-    out.pairs[at] = p;
-    Recorded {
-        failures: out,
-        total,
-    }
-}
-
-// The pairs with room for one more: of 16 the oldest goes.
-fn with_room(failures: TransmitFailures) -> TransmitFailures
-    ensures { result ≡ failures_of (with_room (pairs_of failures)) }
-{
-    let used = in_use(failures);
-    if used < MAX_NEIGBOUR_TABLE {
-        return blank_unused(failures);
-    }
-    without(failures, 0)
-}
-
 // Counts one more failed send to a neighbour.
 pub fn record_transmit_failure(failures: TransmitFailures, neighbor: ShortAddress) -> Recorded
     ensures { result ≡ recorded failures neighbor }
 {
-    let used = in_use(failures);
-    let place = find(failures, neighbor);
-    if place < used {
-        return count_at(failures, place);
+    if let Some(place) = failures.find(neighbor) {
+        return failures.count_at(place);
     }
-    let room = with_room(failures);
-    let p = TransmitFailure {
+    let mut failures = failures.with_room();
+    failures.push(TransmitFailure {
         address: neighbor,
         count: 1,
-    };
-    let more = push(room, p);
-    Recorded {
-        failures: more,
-        total: 1,
-    }
+    });
+    Recorded { failures, total: 1 }
 }
 
 // Drops a neighbour's pair.
@@ -295,25 +234,26 @@ pub fn clear_transmit_failures(
 ) -> TransmitFailures
     ensures { result ≡ pair_removed failures neighbor }
 {
-    let place = find(failures, neighbor);
-    without(failures, place)
+    match failures.find(neighbor) {
+        Some(place) => failures.without(place),
+        None => failures.blank_unused(),
+    }
 }
 
 // A send by way of the parent has failed.
+#[tactic(auto, unfolding(crate::specs::Failures::transmit_failed))]
 pub fn transmit_failed(failures: TransmitFailures, neighbor: ShortAddress) -> FailedSend
     ensures { result ≡ transmit_failed failures neighbor }
 {
-    let now = record_transmit_failure(failures, neighbor);
-    let kept = now.failures;
-    if now.total < MAX_PARENT_TRANSMIT_FAILURES {
+    let Recorded { failures, total } = record_transmit_failure(failures, neighbor);
+    if total < MAX_PARENT_TRANSMIT_FAILURES {
         return FailedSend {
-            failures: kept,
+            failures,
             link_failed: false,
         };
     }
-    let dropped = clear_transmit_failures(kept, neighbor);
     FailedSend {
-        failures: dropped,
+        failures: clear_transmit_failures(failures, neighbor),
         link_failed: true,
     }
 }

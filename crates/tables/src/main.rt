@@ -2,9 +2,9 @@
 // an association.
 #![tactic(auto)]
 
+use filter::Failed;
 use management::NlmeJoinStatus;
 use nib::CapabilityInformation;
-use supervision::OptionalPeriod;
 
 // Prints the usage if there is an argument, and answers whether it did.
 fn usage_printed(rt: &HostRuntime) -> bool {
@@ -27,95 +27,75 @@ fn usage_printed(rt: &HostRuntime) -> bool {
     )
 }
 
-// Prints on, unless something could not be printed, and answers whether all could. So do the functions below.
-fn put(rt: &HostRuntime, going: bool, bytes: &[u8]) -> bool {
-    if !going {
-        return false;
-    }
+fn put(rt: &HostRuntime, bytes: &[u8]) -> Result<(), Failed> {
     filter::write(rt, b"tables", bytes)
 }
 
-fn print(rt: &HostRuntime, going: bool, n: u32) -> bool {
+fn print(rt: &HostRuntime, n: u32) -> Result<(), Failed> {
     let mut digits = [0u8; 10];
     let count = text::write_decimal(&mut digits, 0, n);
-    put(rt, going, &digits[..count])
+    put(rt, &digits[..count])
 }
 
-fn number(rt: &HostRuntime, going: bool, n: u8) -> bool {
-    print(rt, put(rt, going, b"\t"), n as u32)
+fn number(rt: &HostRuntime, n: u8) -> Result<(), Failed> {
+    put(rt, b"\t")?;
+    print(rt, u32::from(n))
 }
 
-fn flag(rt: &HostRuntime, going: bool, b: bool) -> bool {
-    if b {
-        return number(rt, going, 1);
-    }
-    number(rt, going, 0)
+fn flag(rt: &HostRuntime, b: bool) -> Result<(), Failed> {
+    number(rt, u8::from(b))
 }
 
-fn period(rt: &HostRuntime, going: bool, p: OptionalPeriod) -> bool {
+fn period(rt: &HostRuntime, p: Option<u32>) -> Result<(), Failed> {
+    put(rt, b"\t")?;
     match p {
-        OptionalPeriod::NoPeriod => {
-            return put(rt, going, b"\t-");
-        }
-        OptionalPeriod::Period(n) => {
-            return print(rt, put(rt, going, b"\t"), n);
-        }
+        None => put(rt, b"-"),
+        Some(n) => print(rt, n),
     }
 }
 
-fn association(rt: &HostRuntime, going: bool, status: u8) -> bool {
+fn association(rt: &HostRuntime, status: u8) -> Result<(), Failed> {
     if status == 0 {
-        return put(rt, going, b"\tSuccess");
+        return put(rt, b"\tSuccess");
     }
     match join::failed_status(status) {
-        NlmeJoinStatus::PanAtCapacity => {
-            return put(rt, going, b"\tPanAtCapacity");
-        }
-        NlmeJoinStatus::PanAccessDenied => {
-            return put(rt, going, b"\tPanAccessDenied");
-        }
-        NlmeJoinStatus::MacError => {
-            return put(rt, going, b"\tMacError");
-        }
-        _ => {
-            return put(rt, going, b"\tanother");
-        }
+        NlmeJoinStatus::PanAtCapacity => put(rt, b"\tPanAtCapacity"),
+        NlmeJoinStatus::PanAccessDenied => put(rt, b"\tPanAccessDenied"),
+        NlmeJoinStatus::MacError => put(rt, b"\tMacError"),
+        _ => put(rt, b"\tanother"),
     }
 }
 
-fn row(rt: &HostRuntime, begun: bool, byte: u8) -> bool {
-    let mut going = print(rt, begun, byte as u32);
-    going = number(rt, going, nib::link_cost_from_lqi(byte));
-    going = flag(rt, going, CapabilityInformation(byte).device_type());
-    going = flag(rt, going, CapabilityInformation(byte).power_source());
-    going = flag(
+fn row(rt: &HostRuntime, byte: u8) -> Result<(), Failed> {
+    let capability = CapabilityInformation(byte);
+    print(rt, u32::from(byte))?;
+    number(rt, nib::link_cost_from_lqi(byte))?;
+    flag(rt, capability.device_type())?;
+    flag(rt, capability.power_source())?;
+    flag(rt, capability.receiver_on_when_idle())?;
+    flag(rt, capability.security_capability())?;
+    flag(rt, capability.allocate_address())?;
+    period(rt, supervision::timeout_seconds(byte))?;
+    period(rt, supervision::negotiated_timeout_ms(byte))?;
+    association(rt, byte)?;
+    put(rt, b"\n")
+}
+
+// Prints the tables, up to what can't be printed.
+fn print_tables(rt: &HostRuntime) -> Result<(), Failed> {
+    put(
         rt,
-        going,
-        CapabilityInformation(byte).receiver_on_when_idle(),
-    );
-    going = flag(rt, going, CapabilityInformation(byte).security_capability());
-    going = flag(rt, going, CapabilityInformation(byte).allocate_address());
-    going = period(rt, going, supervision::timeout_seconds(byte));
-    going = period(rt, going, supervision::negotiated_timeout_ms(byte));
-    going = association(rt, going, byte);
-    put(rt, going, b"\n")
-}
-
-fn rows(rt: &HostRuntime, begun: bool) {
-    let mut going = begun;
+        b"byte\tcost\trouter\tmains\treceiver\tsecurity\tallocate\tseconds\tmilliseconds\tassociation\n",
+    )?;
     for byte in 0..=255 {
-        going = row(rt, going, byte);
+        row(rt, byte)?;
     }
+    Ok(())
 }
 
 fn main(rt: HostRuntime) {
     if usage_printed(&rt) {
         return;
     }
-    let begun = put(
-        &rt,
-        true,
-        b"byte\tcost\trouter\tmains\treceiver\tsecurity\tallocate\tseconds\tmilliseconds\tassociation\n",
-    );
-    rows(&rt, begun);
+    let _ = print_tables(&rt);
 }

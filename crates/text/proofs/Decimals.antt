@@ -10,7 +10,7 @@ use lib.Dec.{ltb, leb, eqb}
 use lib.ListN.{length, get_or, length-append, get_or-append}
 use Rattle.lists.specs.Lists.{every}
 use Rattle.lists.proofs.Lists.{foldl-snoc}
-use Rattle.text.specs.declared.OptionalNumber.TheVariants.{Number}
+use Rattle.std.specs.Prelude.{Some}
 use Rattle.text.specs.Text.{digit_of, value_from, number_from, decimal_of, digit_byte, decimal_digits, decimal_text}
 use Rattle.text.specs.Statement.{Decimals}
 use Rattle.text.proofs.Numbers.{decimal-byte, tenth-below}
@@ -84,11 +84,11 @@ makes (suc k) n h = go (ltb n 10) refl (makes k (n / 10) (tenth-below (suc k) n 
     go true e m = one n (ltb-true n 10 e)
     go false e m = more n (decimal_digits (suc k) (n / 10)) (ltb-false n 10 e) m
 
-reads : (n limit : ℕ) (f : List ℕ) → Makes n f → n ≤ limit → decimal_of limit f ≡ Number n
+reads : (n limit : ℕ) (f : List ℕ) → Makes n f → n ≤ limit → decimal_of limit f ≡ Some n
 unfolding decimal_of number_from
 reads n limit f m l =
     let t : leb (value_from 10 0 f) limit ≡ true = ap (λ (v : ℕ). leb v limit) m.value ∙ le-leb n limit l in
-    rw (lt-ltb 0 (length f) m.some, m.no_zero, m.digits, t) (ap Number m.value)
+    rw (lt-ltb 0 (length f) m.some, m.no_zero, m.digits, t) (ap Some m.value)
 
 pub decimals : Decimals
 unfolding decimal_text digit_byte

@@ -7,14 +7,13 @@ use native.Mathlib.Nat.{not-suc-le-zero, le_of_suc-le-suc, zero-add, suc-add, le
 use native.Mathlib.Numerals.{add-one}
 use native.Mathlib.Omega.{arith}
 use borrow.Author.Tests.{lt-ltb, le-ltb, lt-leb, ltb-true, leb-true, eqb-true}
+use Rattle.std.specs.Prelude.{Option, Some, None, unwrap_or}
 use lib.Dec.{ltb, leb, eqb}
 use lib.ListN.{length, take, drop, get_or, set, length-append, length-drop, length-replicate}
 use lib.Seq.{drop-cons, drop-drop}
 use Rattle.lists.specs.Lists.{every}
 use Rattle.lists.proofs.Bytes.{drop-set}
-use Rattle.text.specs.Text.{digit_of, value_from, number_from, decimal_of, hex_of, or_zero, digit_byte, decimal_digits, decimal_text, hex_text, spaces, right_text}
-use Rattle.text.specs.declared.OptionalNumber.{OptionalNumber}
-use Rattle.text.specs.declared.OptionalNumber.TheVariants.{NoNumber, Number}
+use Rattle.text.specs.Text.{digit_of, value_from, number_from, decimal_of, hex_of, digit_byte, decimal_digits, decimal_text, hex_text, spaces, right_text}
 
 -- a number in a base is at least its front
 grows : (base v d : ℕ) → 0 < base → v ≤ v * base + d
@@ -24,7 +23,7 @@ value_grows : (base : ℕ) → 0 < base → (v : ℕ) (f : List ℕ) → v ≤ v
 value_grows base h v [] = le_refl v
 value_grows base h v (b ∷ bs) = le_trans (grows base v (digit_of b) h) (value_grows base h (v * base + digit_of b) bs)
 
-none-past : (e : Bool) (x y : OptionalNumber) → cond (e && false) x y ≡ y
+none-past : (e : Bool) (x y : Option ℕ) → cond (e && false) x y ≡ y
 none-past true x y = refl
 none-past false x y = refl
 
@@ -38,11 +37,11 @@ module _ (base limit v : ℕ) (f : List ℕ) (i : ℕ) (h : i < length f) where
   unfolding number_from
   number-on l = rw (add-one, drop-cons f i 0 h, lt-ltb (digit_of (get_or f i 0)) base l)
 
-  pub number-stops : base ≤ digit_of (get_or f i 0) → number_from base limit v (drop i f) ≡ NoNumber
+  pub number-stops : base ≤ digit_of (get_or f i 0) → number_from base limit v (drop i f) ≡ None
   unfolding number_from
   number-stops l = rw (drop-cons f i 0 h, le-ltb (digit_of (get_or f i 0)) base l)
 
-  pub number-large : 0 < base → limit < v * base + digit_of (get_or f i 0) → number_from base limit v (drop i f) ≡ NoNumber
+  pub number-large : 0 < base → limit < v * base + digit_of (get_or f i 0) → number_from base limit v (drop i f) ≡ None
   unfolding number_from
   number-large p l =
       let x = get_or f i 0 in
@@ -136,24 +135,24 @@ value-below base v (b ∷ bs) h =
     let e : suc v * base * base ^ length bs ≡ suc v * base ^ suc (length bs) = mul_assoc (suc v) base (base ^ length bs) ∙ ap (λ (n : ℕ). suc v * n) (sym (pow-succ' base (length bs))) in
     lt_of_lt_of_le (value-below base (v * base + digit_of b) bs t.1) (subst (λ (n : ℕ). suc (v * base + digit_of b) * base ^ length bs ≤ n) e (mul-le-mul_right (base ^ length bs) m))
 
-pub hex-below : (k : ℕ) (f : List ℕ) → or_zero (hex_of k f) < 16 ^ k
+pub hex-below : (k : ℕ) (f : List ℕ) → unwrap_or (hex_of k f) 0 < 16 ^ k
 unfolding hex_of number_from
 hex-below k f = go (eqb (length f) k) refl (every (λ b. ltb (digit_of b) 16) f) refl (leb (value_from 16 0 f) 18446744073709551615)
   where
     some : 0 < 16 ^ k
     some = one-le-pow k 16 (omega arith)
 
-    go : (b : Bool) → eqb (length f) k ≡ b → (e : Bool) → every (λ x. ltb (digit_of x) 16) f ≡ e → (l : Bool) → or_zero (cond b (cond (e && l) (Number (value_from 16 0 f)) NoNumber) NoNumber) < 16 ^ k
+    go : (b : Bool) → eqb (length f) k ≡ b → (e : Bool) → every (λ x. ltb (digit_of x) 16) f ≡ e → (l : Bool) → unwrap_or (cond b (cond (e && l) (Some (value_from 16 0 f)) None) None) 0 < 16 ^ k
     go false p e q l = some
     go true p false q l = some
     go true p true q false = some
     go true p true q true = subst (λ (n : ℕ). value_from 16 0 f < 16 ^ n) (eqb-true (length f) k p) (subst (λ (n : ℕ). value_from 16 0 f < n) (one-mul (16 ^ length f)) (value-below 16 0 f q))
 
-pub decimal-most : (limit : ℕ) (f : List ℕ) → or_zero (decimal_of limit f) ≤ limit
+pub decimal-most : (limit : ℕ) (f : List ℕ) → unwrap_or (decimal_of limit f) 0 ≤ limit
 unfolding decimal_of number_from
 decimal-most limit f = go (ltb 0 (length f) && (leb (length f) 1 || not (eqb (get_or f 0 0) 48))) (every (λ b. ltb (digit_of b) 10) f) (leb (value_from 10 0 f) limit) refl
   where
-    go : (b e l : Bool) → leb (value_from 10 0 f) limit ≡ l → or_zero (cond b (cond (e && l) (Number (value_from 10 0 f)) NoNumber) NoNumber) ≤ limit
+    go : (b e l : Bool) → leb (value_from 10 0 f) limit ≡ l → unwrap_or (cond b (cond (e && l) (Some (value_from 10 0 f)) None) None) 0 ≤ limit
     go false e l p = zero-le
     go true false l p = zero-le
     go true true false p = zero-le

@@ -11,7 +11,7 @@ use Rattle.text.specs.Text.{digit_byte, decimal_digits}
 use Rattle.text.proofs.Numbers.{decimal-byte}
 
 -- the powers of ten from the k-th down to 1
-abbrev powers_from : ℕ → List ℕ
+abbrev pub powers_from : ℕ → List ℕ
 powers_from zero = 10 ^ zero ∷ []
 powers_from (suc k) = 10 ^ suc k ∷ powers_from k
 

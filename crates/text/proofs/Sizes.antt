@@ -6,12 +6,12 @@ use mathlib.Core.List.{List, [], ◌∷◌}
 use native.Mathlib.Nat.{le_refl, le_trans, not-suc-le-zero, pow-zero, pow-succ', pow-le-pow_right, mul_assoc, mul-one, one-mul, mul-le-mul_right}
 use native.Mathlib.Omega.{arith}
 use borrow.Author.Tests.{leb-true, leb-false, eqb-true, eqb-false}
+use Rattle.std.specs.Prelude.{Option, Some, None, is_some}
+use Rattle.std.specs.List.{onto_first}
 use lib.Dec.{ltb, leb, eqb}
 use lib.ListN.{length}
 use Rattle.lists.specs.Lists.{every}
-use Rattle.text.specs.Text.{onto_first, parts, same_text, digit_of, value_from, number_from, decimal_of, hex_of, is_number}
-use Rattle.text.specs.declared.OptionalNumber.{OptionalNumber}
-use Rattle.text.specs.declared.OptionalNumber.TheVariants.{NoNumber, Number}
+use Rattle.text.specs.Text.{parts, same_text, digit_of, value_from, number_from, decimal_of, hex_of}
 use Rattle.text.proofs.Numbers.{both}
 use Rattle.text.proofs.Parts.{parts-some}
 
@@ -21,11 +21,11 @@ same_size [] (y ∷ ys) h = absurd (false≢true h)
 same_size (x ∷ xs) [] h = absurd (false≢true h)
 same_size (x ∷ xs) (y ∷ ys) h = ap suc (same_size xs ys (both (eqb x y) (same_text xs ys) h).1)
 
-pub hex-size : (k : ℕ) (f : List ℕ) → is_number (hex_of k f) ≡ true → length f ≡ k
+pub hex-size : (k : ℕ) (f : List ℕ) → is_some (hex_of k f) ≡ true → length f ≡ k
 unfolding hex_of
 hex-size k f h = go (eqb (length f) k) refl (number_from 16 18446744073709551615 0 f) h
   where
-    go : (b : Bool) → eqb (length f) k ≡ b → (n : OptionalNumber) → is_number (cond b n NoNumber) ≡ true → length f ≡ k
+    go : (b : Bool) → eqb (length f) k ≡ b → (n : Option ℕ) → is_some (cond b n None) ≡ true → length f ≡ k
     go true e n t = eqb-true (length f) k e
     go false e n t = absurd (false≢true t)
 
@@ -49,7 +49,7 @@ digit-some b n = go (leb 48 b) refl (leb b 57) (leb 97 b) refl (leb b 102)
     go false e q true g false = omega arith
     go false e q false g s = omega arith
 
-pub decimal-size : (j limit : ℕ) (f : List ℕ) → limit < 10 ^ suc j → is_number (decimal_of limit f) ≡ true → length f ≤ suc j
+pub decimal-size : (j limit : ℕ) (f : List ℕ) → limit < 10 ^ suc j → is_some (decimal_of limit f) ≡ true → length f ≤ suc j
 unfolding decimal_of number_from
 decimal-size j limit [] h t = zero-le
 decimal-size j limit (b ∷ []) h t = omega arith
@@ -69,7 +69,7 @@ decimal-size j limit (b ∷ c ∷ bs) h t =
     fits m e false q = leb-false (suc j) n q
 
     go : (z l : Bool) → leb (suc n) 1 ≡ l → (q : Bool) → eqb b 48 ≡ q → (e w : Bool) → leb (value_from 10 0 (b ∷ c ∷ bs)) limit ≡ w
-        → is_number (cond (z && (l || not q)) (cond (e && w) (Number (value_from 10 0 (b ∷ c ∷ bs))) NoNumber) NoNumber) ≡ true → suc n ≤ suc j
+        → is_some (cond (z && (l || not q)) (cond (e && w) (Some (value_from 10 0 (b ∷ c ∷ bs))) None) None) ≡ true → suc n ≤ suc j
     go z true p q r e w k u = let x = leb-true (suc n) 1 p in let y : ⊥ = omega arith in absurd y
     go true false p true r e w k u = absurd (false≢true u)
     go false false p q r e w k u = absurd (false≢true u)

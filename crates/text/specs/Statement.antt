@@ -1,11 +1,10 @@
 -- What is claimed of decimals: a number is written so that it is read as itself.
 -- (01, "The yard list": "no leading zero"; 02, L3: "each unsigned 32-bit number".)
-use Rattle.std.specs.Prelude.{ℕ, ◌<◌, ◌≤◌, ◌≡◌}
-use Rattle.text.specs.declared.OptionalNumber.TheVariants.{Number}
+use Rattle.std.specs.Prelude.{ℕ, ◌<◌, ◌≤◌, ◌≡◌, Some}
 use Rattle.text.specs.Text.{bytes, decimal_of, decimal_text, right_text}
 
 pub record Decimals : Type 0 where
-  pub read_back : (n limit : ℕ) → n < 4294967296 → n ≤ limit → decimal_of limit (decimal_text n) ≡ Number n
+  pub read_back : (n limit : ℕ) → n < 4294967296 → n ≤ limit → decimal_of limit (decimal_text n) ≡ Some n
   -- written out: 0, ten, every digit, and the greatest number
   pub none : decimal_text 0 ≡ bytes "0"
   pub ten : decimal_text 10 ≡ bytes "10"

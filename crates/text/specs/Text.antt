@@ -1,26 +1,20 @@
 -- Parts of a line, numbers that are read and numbers that are written (01, "The yard list"). A text is the list of its bytes.
-use Rattle.std.specs.Prelude.{ℕ, zero, suc, ◌+◌, ◌-◌, ◌*◌, ◌/◌, ◌%◌, Bool, true, false, cond, not, ◌&&◌, ◌||◌, eqb, ltb, leb, length, drop, get_or, replicate}
+use Rattle.std.specs.Prelude.{ℕ, zero, suc, ◌+◌, ◌-◌, ◌*◌, ◌/◌, ◌%◌, Bool, cond, not, ◌&&◌, ◌||◌, Option, Some, None, eqb, ltb, leb, length, drop, get_or, replicate}
+use Rattle.std.specs.List.{slice_split}
+use Rattle.std.specs.Str.{bytes_eq}
 use Prim.Native.Char.{code}
 use Prim.Native.String.{String, [] as []ˢ, ◌∷◌ as ◌∷ˢ◌}
 use mathlib.Core.List.{List, [], ◌∷◌, ◌++◌, foldl}
 use Rattle.lists.specs.Lists.{every}
-use Rattle.text.specs.declared.OptionalNumber.{OptionalNumber}
-use Rattle.text.specs.declared.OptionalNumber.TheVariants.{NoNumber, Number}
 
 -- the bytes of a text that is written down
 abbrev pub bytes : String → List ℕ
 bytes []ˢ = []
 bytes (c ∷ˢ s) = code c ∷ bytes s
 
--- a byte before the first of the parts
-abbrev pub onto_first : ℕ → List (List ℕ) → List (List ℕ)
-onto_first b [] = (b ∷ []) ∷ []
-onto_first b (p ∷ ps) = (b ∷ p) ∷ ps
-
 -- the parts of a text between the bytes `sep`, in order: one more than there are such bytes
 abbrev pub parts : ℕ → List ℕ → List (List ℕ)
-parts sep [] = [] ∷ []
-parts sep (b ∷ bs) = cond (eqb b sep) ([] ∷ parts sep bs) (onto_first b (parts sep bs))
+parts sep l = slice_split (λ b. eqb b sep) l
 
 -- the fields of a line: the parts between its tabs
 abbrev pub fields : List ℕ → List (List ℕ)
@@ -28,10 +22,7 @@ fields line = parts 9 line
 
 -- two texts are the same
 abbrev pub same_text : List ℕ → List ℕ → Bool
-same_text [] [] = true
-same_text [] (y ∷ ys) = false
-same_text (x ∷ xs) [] = false
-same_text (x ∷ xs) (y ∷ ys) = eqb x y && same_text xs ys
+same_text a b = bytes_eq a b
 
 -- the value of a digit, 0 to 9 or lower-case a to f, and 16 for any other byte. A byte is a digit in a base if this is below it
 unfoldable pub digit_of : ℕ → ℕ
@@ -42,18 +33,18 @@ abbrev pub value_from : ℕ → ℕ → List ℕ → ℕ
 value_from base v f = foldl (λ w b. w * base + digit_of b) v f
 
 -- the number that the digits in a base make after digits of value v; none if a byte is no digit, or if it is above limit
-unfoldable pub number_from : ℕ → ℕ → ℕ → List ℕ → OptionalNumber
+unfoldable pub number_from : ℕ → ℕ → ℕ → List ℕ → Option ℕ
 number_from base limit v f =
-    cond (every (λ b. ltb (digit_of b) base) f && leb (value_from base v f) limit) (Number (value_from base v f)) NoNumber
+    cond (every (λ b. ltb (digit_of b) base) f && leb (value_from base v f) limit) (Some (value_from base v f)) None
 
 -- a decimal number: at least one digit, no leading zero, value at most limit
-unfoldable pub decimal_of : ℕ → List ℕ → OptionalNumber
+unfoldable pub decimal_of : ℕ → List ℕ → Option ℕ
 decimal_of limit f =
-    cond (ltb 0 (length f) && (leb (length f) 1 || not (eqb (get_or f 0 0) 48))) (number_from 10 limit 0 f) NoNumber
+    cond (ltb 0 (length f) && (leb (length f) 1 || not (eqb (get_or f 0 0) 48))) (number_from 10 limit 0 f) None
 
 -- a hexadecimal number: exactly k digits, lower case, a value of at most 64 bits
-unfoldable pub hex_of : ℕ → List ℕ → OptionalNumber
-hex_of k f = cond (eqb (length f) k) (number_from 16 18446744073709551615 0 f) NoNumber
+unfoldable pub hex_of : ℕ → List ℕ → Option ℕ
+hex_of k f = cond (eqb (length f) k) (number_from 16 18446744073709551615 0 f) None
 
 -- the byte of a digit, lower case
 unfoldable pub digit_byte : ℕ → ℕ
@@ -79,13 +70,3 @@ spaces n = replicate n 32
 -- a text right-aligned in w characters: the last w of w spaces and the text
 abbrev pub right_text : ℕ → List ℕ → List ℕ
 right_text w t = drop (length t) (spaces w ++ t)
-
--- a number that is read, and 0 where there is none
-abbrev pub or_zero : OptionalNumber → ℕ
-or_zero NoNumber = 0
-or_zero (Number n) = n
-
--- whether there is a number
-abbrev pub is_number : OptionalNumber → Bool
-is_number NoNumber = false
-is_number (Number n) = true

@@ -3,70 +3,20 @@
 
 ghost use Rattle.std.specs.Prelude.{◌≡◌, [], ◌+◌, ◌-◌, ◌^◌, ◌≤◌, ◌<◌, min, not, ◌||◌, eqb, leb, length, take, drop, get_or};
 ghost use Rattle.std.proofs.lemmas.List.Edits.{sets};
-ghost use Rattle.lists.specs.Lists.{first_index};
-ghost use Rattle.text.specs.Text.{parts, fields, same_text, digit_of, number_from, decimal_of, hex_of, digit_byte, decimal_text, hex_text, right_text};
-
-// A number that is read, or that there is none.
-#[derive(Clone, Copy)]
-pub enum OptionalNumber {
-    NoNumber,
-    Number(u64),
-}
-
-// The index of the first byte `sep` at or after a place, or the length.
-fn find(s: &[u8], from: usize, sep: u8) -> usize
-    requires { from ≤ length s.now }
-    ensures { (result ≡ from + first_index (λ b. eqb b sep) (drop from s.now)) × (result ≤ length s.now) }
-{
-    let mut i = from;
-    while i < s.len() {
-        if s[i] == sep {
-            return i;
-        }
-        i += 1;
-    }
-    i
-}
-
-// Where part k begins; the end of the text where there is no such part.
-fn start(s: &[u8], sep: u8, k: usize) -> usize
-    ensures { (result ≤ length s.now) × (get_or (parts sep (drop result s.now)) 0 [] ≡ get_or (parts sep s.now) k []) }
-{
-    let mut at = 0;
-    let mut left = k;
-    while 0 < left {
-        let e = find(s, at, sep);
-        if e == s.len() {
-            return e;
-        }
-        at = e + 1;
-        left -= 1;
-    }
-    at
-}
+ghost use Rattle.text.specs.Text.{parts, fields, digit_of, number_from, decimal_of, hex_of, digit_byte, decimal_text, hex_text, right_text};
 
 // Part k of a text that is parted by `sep`, from 0; empty where there is no such part.
 pub fn part(s: &[u8], sep: u8, k: usize) -> &[u8]
     ensures { result.now ≡ get_or (parts sep s.now) k [] }
 {
-    let a = start(s, sep, k);
-    let e = find(s, a, sep);
-    &s[a..e]
+    s.split(|b| *b == sep).nth(k).unwrap_or(&[])
 }
 
 // How many parts a text has.
 pub fn part_count(s: &[u8], sep: u8) -> usize
     ensures { result ≡ length (parts sep s.now) }
 {
-    let mut n: usize = 0;
-    let mut i: usize = 0;
-    while i < s.len() {
-        if s[i] == sep {
-            n += 1;
-        }
-        i += 1;
-    }
-    n + 1
+    s.split(|b| *b == sep).count()
 }
 
 // Field k of a line, from 0: the part of the line between its tabs.
@@ -76,103 +26,71 @@ pub fn field(line: &[u8], k: usize) -> &[u8]
     part(line, b'\t', k)
 }
 
-// Whether two texts are the same.
-pub fn same(a: &[u8], b: &[u8]) -> bool
-    ensures { result ≡ same_text a.now b.now }
-{
-    if a.len() != b.len() {
-        return false;
-    }
-    let mut i = 0;
-    while i < a.len() {
-        if a[i] != b[i] {
-            return false;
-        }
-        i += 1;
-    }
-    true
-}
-
 // The value of a digit, and 16 for any other byte.
 #[tactic(auto, unfolding(crate::specs::Text::digit_of))]
 fn digit(b: u8) -> u64
     ensures { result ≡ digit_of b }
 {
     match b {
-        b'0'..=b'9' => (b - b'0') as u64,
-        b'a'..=b'f' => (b - b'a' + 10) as u64,
+        b'0'..=b'9' => u64::from(b - b'0'),
+        b'a'..=b'f' => u64::from(b - b'a' + 10),
         _ => 16,
     }
 }
 
 // The number that digits in a base make.
-fn number(f: &[u8], base: u64, limit: u64) -> OptionalNumber
+fn number(f: &[u8], base: u64, limit: u64) -> Option<u64>
     requires { 0 < base }
     ensures { result ≡ number_from base limit 0 f.now }
 {
     let mut v: u64 = 0;
-    let mut i = 0;
-    while i < f.len() {
-        let d = digit(f[i]);
+    for b in f {
+        let d = digit(*b);
         if base <= d {
-            return OptionalNumber::NoNumber;
+            return None;
         }
-        if limit / base < v {
-            return OptionalNumber::NoNumber;
+        v = v.checked_mul(base)?.checked_add(d)?;
+        if limit < v {
+            return None;
         }
-        if limit - v * base < d {
-            return OptionalNumber::NoNumber;
-        }
-        v = v * base + d;
-        i += 1;
     }
-    OptionalNumber::Number(v)
+    Some(v)
 }
 
 // Whether a text of two bytes or more begins with the digit 0.
 fn has_leading_zero(f: &[u8]) -> bool
     ensures { result ≡ not (leb (length f.now) 1 || not (eqb (get_or f.now 0 0) 48)) }
 {
-    if f.len() <= 1 {
-        return false;
-    }
-    f[0] == b'0'
+    1 < f.len() && f[0] == b'0'
 }
 
 // The decimal number that a text is.
 #[tactic(auto, unfolding(crate::specs::Text::decimal_of))]
-pub fn decimal(f: &[u8], limit: u32) -> OptionalNumber
+pub fn decimal(f: &[u8], limit: u32) -> Option<u64>
     ensures { result ≡ decimal_of limit f.now }
 {
-    if f.len() == 0 {
-        return OptionalNumber::NoNumber;
+    if f.is_empty() || has_leading_zero(f) {
+        return None;
     }
-    if has_leading_zero(f) {
-        return OptionalNumber::NoNumber;
-    }
-    number(f, 10, limit as u64)
+    number(f, 10, u64::from(limit))
 }
 
 // The hexadecimal number of so many digits that a text is.
 #[tactic(auto, unfolding(crate::specs::Text::hex_of))]
-pub fn hex(f: &[u8], digits: usize) -> OptionalNumber
+pub fn hex(f: &[u8], digits: usize) -> Option<u64>
     ensures { result ≡ hex_of digits f.now }
 {
     if f.len() != digits {
-        return OptionalNumber::NoNumber;
+        return None;
     }
-    number(f, 16, 0xffff_ffff_ffff_ffff)
+    number(f, 16, u64::MAX)
 }
 
 // How many bytes of a text fit at a place of a buffer.
 fn room(size: usize, at: usize, wanted: usize) -> usize
     ensures { result ≡ min wanted (size - at) }
 {
-    if size <= at {
-        return 0;
-    }
-    let free = size - at;
-    if wanted <= free { wanted } else { free }
+    wanted.min(size.saturating_sub(at))
 }
 
 // Writes a text at a place, as far as it fits, and returns its length.
@@ -180,11 +98,8 @@ pub fn write(out: &mut [u8], at: usize, s: &[u8]) -> usize
     ensures { (result ≡ length s.now) × (out.new ≡ sets out.old at s.now) }
 {
     let n = room(out.len(), at, s.len());
-    let mut i = 0;
-    while i < n {
-        out[at + i] = s[i];
-        i += 1;
-    }
+    let from = at.min(out.len());
+    out[from..from + n].copy_from_slice(&s[..n]);
     s.len()
 }
 
@@ -223,14 +138,10 @@ fn power_at(place: usize) -> u32
 fn first_place(n: u32) -> usize
     ensures { (result ≤ 9) × (n < 10 ^ (10 - result)) × (result < 9 → 10 ^ (9 - result) ≤ n) }
 {
-    let mut place = 0;
-    while place < 9 {
-        if power_at(place) <= n {
-            return place;
-        }
-        place += 1;
-    }
-    place
+    POWERS_OF_TEN
+        .iter()
+        .position(|power| *power <= n)
+        .unwrap_or(9)
 }
 
 // A number in decimal at the end of ten bytes; the result is where it begins, and what stands before it stays.
@@ -270,20 +181,13 @@ pub fn write_decimal(out: &mut [u8], at: usize, n: u32) -> usize
     write(out, at, &bytes[a..])
 }
 
-// Where the last `wanted` of so many bytes begin.
-fn last_of(size: usize, wanted: usize) -> usize
-    ensures { result ≡ size - wanted }
-{
-    if wanted <= size { size - wanted } else { 0 }
-}
-
 // Writes a number in decimal at a place, right-aligned with spaces in so many characters but at most ten, as far as they fit. Returns how many.
 pub fn write_decimal_right(out: &mut [u8], at: usize, n: u32, width: usize) -> usize
     ensures { (result ≡ length (right_text (min width 10) (decimal_text n))) × (out.new ≡ sets out.old at (right_text (min width 10) (decimal_text n))) }
 {
     let mut bytes = [b' '; 10];
     fill_decimal(&mut bytes, n);
-    let start = last_of(10, width);
+    let start = 10usize.saturating_sub(width);
     write(out, at, &bytes[start..])
 }
 
@@ -292,12 +196,10 @@ fn fill_hex(bytes: &mut [u8], from: usize, n: u64)
     requires { (length bytes.old ≡ 16) × (from ≤ 16) }
     ensures { drop from bytes.new ≡ hex_text (16 - from) n }
 {
-    let mut at = 16;
     let mut left = n;
-    while from < at {
-        at -= 1;
+    for at in (from..16).rev() {
         bytes[at] = digit_byte((left % 16) as u8);
-        left = left / 16;
+        left /= 16;
     }
 }
 
@@ -306,7 +208,7 @@ pub fn write_hex(out: &mut [u8], at: usize, n: u64, digits: usize) -> usize
     ensures { (result ≡ length (hex_text (min digits 16) n)) × (out.new ≡ sets out.old at (hex_text (min digits 16) n)) }
 {
     let mut bytes = [0u8; 16];
-    let from = last_of(16, digits);
+    let from = 16usize.saturating_sub(digits);
     fill_hex(&mut bytes, from, n);
     write(out, at, &bytes[from..])
 }

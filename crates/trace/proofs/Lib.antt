@@ -1,5 +1,4 @@
 -- The laws of `trace`.
 pub mod Lists
-pub mod Padded
 pub mod Pages
 pub mod Named

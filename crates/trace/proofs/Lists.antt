@@ -1,51 +1,59 @@
 -- Laws of lists of lines, and of what they print. Assumes nothing.
-use Prim.Native.Nat.{ℕ, zero, suc, ◌-◌, ◌*◌, ◌<◌, ◌≤◌, zero-le}
-use mathlib.Core.Path.{◌≡◌, refl, sym, ap, ◌∙◌}
-use mathlib.Core.Bool.{Bool, true, false, cond}
-use mathlib.Core.List.{List, [], ◌∷◌, ◌++◌, map, flat_map}
-use native.Mathlib.Nat.{le_of_suc-le-suc, not-suc-le-zero}
+use Prim.Native.Nat.{ℕ, ◌+◌, ◌*◌, ◌<◌, ◌≤◌, zero-le}
+use mathlib.Core.Path.{◌≡◌, sym, ap, ◌∙◌}
+use mathlib.Core.List.{List, [], ◌∷◌, ◌++◌, map, map-append, append-nil, flat_map}
 use native.Mathlib.Omega.{arith}
-use lib.Dec.{eqb}
-use lib.ListN.{length, take, get_or, length-append, length-take}
-use lib.Seq.{get_or-take, length-take-le}
+use lib.ListN.{length, take, get_or, length-append, length-map}
+use lib.Seq.{sets, length-take-le}
+use Rattle.std.specs.Prelude.{Option, Some, None}
 use Rattle.lists.specs.Lists.{over}
-use Rattle.trace_lines.specs.declared.Line.{Line}
-use Rattle.trace_lines.specs.TraceLines.{no_line, line_text}
+use Rattle.lists.proofs.Bytes.{sets-join}
+use Rattle.lists.proofs.Collect.{flat_map-append}
+use Rattle.lists.proofs.Lists.{take_next}
+use Rattle.trace_lines.specs.TraceLines.{line_text, Wrote}
 use Rattle.trace_lines.proofs.Texts.{line-short}
 use Rattle.trace.specs.declared.Run.{Run}
-use Rattle.trace.specs.Trace.{some_text, printed, after}
+use Rattle.trace.specs.Lines.{Line}
+use Rattle.trace.specs.Private.{WroteLines}
+use Rattle.trace.specs.Trace.{some_text, lines_text, each_line, printed, after}
 
-module _ {A : Type 0} where
-  -- past the first of two lists
-  pub get_d-right : (l k : List A) (i : ℕ) (d : A) → length l ≤ i → get_or (l ++ k) i d ≡ get_or k (i - length l) d
-  get_d-right [] k i d h = let e : i ≡ i - 0 = omega arith in ap (λ (n : ℕ). get_or k n d) e
-  get_d-right (x ∷ xs) k zero d h = absurd (not-suc-le-zero h)
-  get_d-right (x ∷ xs) k (suc i) d h =
-      let e : i - length xs ≡ suc i - suc (length xs) = omega arith in
-      get_d-right xs k i d (le_of_suc-le-suc h) ∙ ap (λ (n : ℕ). get_or k n d) e
+-- what is written behind what was written: the places, the lengths and the texts join
+pub then_written : (o : List ℕ) (at : ℕ) (a b : List ℕ) {n m j r : ℕ} {p q t : List ℕ} → Wrote o at p n a → Wrote p j q m b → j ≡ at + n → r ≡ n + m → t ≡ a ++ b → Wrote o at q r t
+then_written o at a b w v h k e =
+    let s = sets-join o at _ a b w.1 v.1 (omega (arith, h, w.0)) in
+    (omega (arith, k, w.0, v.0, length-append a b, ap length e), s ∙ ap (sets o at) (sym e))
 
-  -- the line of the element at an index among the first n of an array
-  pub line_at : (f : A → Line) (l : List A) (n i : ℕ) (d : A) → i < length (take n l) → f (get_or l i d) ≡ get_or (map f (take n l)) i no_line
-  line_at f l n i d h = ap f (sym (get_or-take n l i d (omega (arith, length-take n l)))) ∙ go (take n l) i h
-    where
-      go : (k : List A) (j : ℕ) → j < length k → f (get_or k j d) ≡ get_or (map f k) j no_line
-      go [] j h = absurd (not-suc-le-zero h)
-      go (x ∷ xs) zero h = refl
-      go (x ∷ xs) (suc j) h = go xs j (le_of_suc-le-suc h)
+-- what was written is the same text in other words
+pub written_as : (o : List ℕ) (at : ℕ) {n : ℕ} {p : List ℕ} (a b : List ℕ) → a ≡ b → Wrote o at p n a → Wrote o at p n b
+written_as o at a b e w = (w.0 ∙ ap length e, w.1 ∙ ap (sets o at) e)
 
 -- a line prints at most 420 bytes, and so do lines in turn
-pub some-short : (l : Line) → length (some_text l) ≤ 420
-unfolding some_text
-some-short l = go (eqb l.kind 255)
-  where
-    go : (b : Bool) → length (cond b [] (line_text l)) ≤ 420
-    go true = zero-le
-    go false = line-short l
+pub some-short : (l : Option Line) → length (some_text l) ≤ 420
+some-short None = zero-le
+some-short (Some l) = line-short l
 
-pub lines-short : (l : List Line) → length (flat_map some_text l) ≤ 420 * length l
+pub lines-short : (l : List (Option Line)) → length (lines_text l) ≤ 420 * length l
 unfolding flat_map
 lines-short [] = zero-le
-lines-short (x ∷ xs) = omega (arith, length-append (some_text x) (flat_map some_text xs), some-short x, lines-short xs)
+lines-short (x ∷ xs) = omega (arith, length-append (some_text x) (lines_text xs), some-short x, lines-short xs)
+
+-- lines that are written, with how long they are at most
+pub lines_written : (o : List ℕ) (at : ℕ) {n : ℕ} {p : List ℕ} (ls : List (Option Line)) → Wrote o at p n (lines_text ls) → WroteLines o at p n ls
+lines_written o at ls w = (w, omega (arith, w.0, lines-short ls))
+
+-- a line for each element of a list
+module _ {A : Type 0} (f : A → Line) where
+  pub each-short : (l : List A) → length (lines_text (each_line f l)) ≤ 420 * length l
+  each-short l = omega (arith, lines-short (each_line f l), length-map l (λ (x : A). Some (f x)))
+
+  pub each-next : (l : List A) (i : ℕ) (d : A) → i < length l → lines_text (each_line f (take i l)) ++ line_text (f (get_or l i d)) ≡ lines_text (each_line f (take (i + 1) l))
+  unfolding flat_map
+  each-next l i d h =
+      let g : A → Option Line = λ x. Some (f x) in
+      sym (ap (λ (z : List A). lines_text (each_line f z)) (take_next l i d h)
+      ∙ ap lines_text (map-append g (take i l) (get_or l i d ∷ []))
+      ∙ flat_map-append some_text (map g (take i l)) (g (get_or l i d) ∷ [])
+      ∙ ap (λ (z : List ℕ). lines_text (each_line f (take i l)) ++ z) (append-nil (line_text (f (get_or l i d)))))
 
 -- what a line prints is a prefix of the buffer after it
 pub printed-prefix : (line : List ℕ) (r r' : Run) (o o' : List ℕ) → r' ≡ after line r → o' ≡ over o (printed line r) → (r'.length ≤ length o') × (r'.length ≡ length (take r'.length o'))

@@ -2,7 +2,7 @@
 use Prim.Native.Nat.{ℕ, ◌≤◌, min}
 use mathlib.Core.Path.{◌≡◌, refl, sym, ap, subst, ◌∙◌}
 use mathlib.Core.Bool.{Bool, true, false, cond}
-use mathlib.Core.List.{List, [], ◌∷◌, ◌++◌, append_assoc, append-nil, flat_map}
+use mathlib.Core.List.{List, [], ◌∷◌, ◌++◌, append_assoc, append-nil}
 use native.Mathlib.Omega.{arith}
 use borrow.Author.Tests.{ltb-true, ltb-false, lt-ltb, le-ltb}
 use types.Run.{OneOf, miss}
@@ -25,10 +25,8 @@ use Rattle.node.specs.Calls.{page_answer, page_left}
 use Rattle.node.specs.declared.State.{State}
 use Rattle.node.specs.declared.Answer.{Answer}
 use Rattle.trace.specs.Lines.{step_line}
-use Rattle.trace_calls.specs.declared.Said.{Said}
-use Rattle.trace_calls.specs.declared.Turn.{Turn}
-use Rattle.trace_calls.specs.contracts.Said.{the_type as said-type}
-use Rattle.trace.specs.Trace.{some_text, lines_by, said_lines, page_bytes, page_text, page_by, text_of}
+use Rattle.trace.specs.Trace.{some_text, page_bytes, page_text}
+use Rattle.operation.specs.declared.Refusal.TheVariants.{BadState, ShortPage}
 
 -- the tags of all answers but that of a page
 abbrev pub no_page : List ℕ
@@ -44,14 +42,14 @@ room-same k = go (ltb k 816) refl
 
 answer-same : (k : ℕ) (s : State) → page_answer (min k 1024) s ≡ page_answer k s
 unfolding page_answer
-answer-same k s = ap (λ b. cond (bad s) (refuse 5 s) (cond b (refuse 6 s) (deciding s (telling Step.PageWritten s.control)))) (room-same k)
+answer-same k s = ap (λ b. cond (bad s) (refuse BadState s) (cond b (refuse ShortPage s) (deciding s (telling Step.PageWritten s.control)))) (room-same k)
 
 -- the tag of its answer: 12 for a page that is written
 tag-of : (n : ℕ) (s : State) → tag_of the_type (page_answer n s).step ≡ cond (bad s) 0 (cond (too_short n) 0 12)
 unfolding page_answer finish refuse
 tag-of n s = go (bad s) (too_short n) _ refl
   where
-    go : (b t : Bool) (a : Answer) → tag_of the_type a.step ≡ 12 → tag_of the_type (cond b (refuse 5 s) (cond t (refuse 6 s) a)).step ≡ cond b 0 (cond t 0 12)
+    go : (b t : Bool) (a : Answer) → tag_of the_type a.step ≡ 12 → tag_of the_type (cond b (refuse BadState s) (cond t (refuse ShortPage s) a)).step ≡ cond b 0 (cond t 0 12)
     go true t a h = refl
     go false true a h = refl
     go false false a h = h
@@ -135,20 +133,3 @@ module _ (k : ℕ) (s : State) (out part : List ℕ) (a : Answer) (n : ℕ) (m :
 
   pub text-of : OneOf no_page (tag_of the_type a.step) → some_text (step_line a.step 0) ≡ page_text k s
   text-of h = sym (text-refused k s (take n out) a lent e h)
-
--- the lines of a turn, or its page
-no-page : (q : Said) (s : State) → OneOf (0 ∷ 1 ∷ 2 ∷ 3 ∷ 4 ∷ []) (tag_of said-type q) → page_by q s ≡ []
-no-page Said.Bad s h = refl
-no-page Said.Nothing s h = refl
-no-page (Said.Told reset note step) s h = refl
-no-page (Said.Chosen refusal) s h = refl
-no-page Said.Shown s h = refl
-no-page (Said.Paged k) s h = absurd (miss (0 ∷ 1 ∷ 2 ∷ 3 ∷ 4 ∷ []) 5 tt h)
-
-pub lines-only : (n : ℕ) (t : Turn) → OneOf (0 ∷ 1 ∷ 2 ∷ 3 ∷ 4 ∷ []) (tag_of said-type t.said) → flat_map some_text (said_lines n t) ≡ text_of n t
-unfolding text_of
-lines-only n t h = sym (ap (λ (l : List ℕ). flat_map some_text (said_lines n t) ++ l) (no-page t.said t.session.state h) ∙ append-nil (flat_map some_text (said_lines n t)))
-
-pub page-only : (n : ℕ) (t : Turn) (k : ℕ) → t.said ≡ Said.Paged k → page_text k t.session.state ≡ text_of n t
-unfolding text_of flat_map
-page-only n t k e = sym (ap (λ (q : Said). flat_map some_text (lines_by q n t) ++ page_by q t.session.state) e)

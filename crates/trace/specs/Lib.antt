@@ -1,5 +1,4 @@
 -- The definitions of `trace`.
-pub mod Word
-pub mod Kind
 pub mod Lines
 pub mod Trace
+pub mod Private

@@ -1,13 +1,9 @@
--- What a node answers, as lines of a trace (compare/FORMAT.md, "Output").
--- A line has its kind, and the numbers of its fields in order. The first of them names the line's word.
-use Rattle.std.specs.Prelude.{ℕ, ◌+◌, Bool, true, false, cond, List, [], ◌∷◌, eqb, length}
-use Rattle.lists.specs.Lists.{over}
+-- What a node answers, as lines of a trace (compare/FORMAT.md, "Output"): the fields of each, of which the first is the line's word.
+use Rattle.std.specs.Prelude.{Option, Some, None, option_map, Result, Ok, Err, ℕ, Bool, cond, List, [], ◌∷◌, map}
 use Rattle.nib.specs.declared.DeviceType.{DeviceType}
 use Rattle.nib.specs.declared.DeviceType.TheVariants.{Coordinator, Router, EndDevice, Invalid}
 use Rattle.nib.specs.declared.Nib.{Nib}
 use Rattle.nib.specs.declared.NwkNeighbor.{NwkNeighbor}
-use Rattle.nib.specs.declared.OptionalIeee.{OptionalIeee}
-use Rattle.nib.specs.declared.OptionalIeee.TheVariants.{NoIeee, Ieee}
 use Rattle.nib.specs.declared.PanId.{PanId}
 use Rattle.nib.specs.declared.ShortAddress.{ShortAddress}
 use Rattle.discovery.specs.declared.NetworkDescriptor.{NetworkDescriptor}
@@ -15,8 +11,6 @@ use Rattle.candidates.specs.Candidates.{items_of}
 use Rattle.candidates.specs.declared.CandidateList.{CandidateList}
 use Rattle.management.specs.declared.KeepaliveAnswer.{KeepaliveAnswer}
 use Rattle.management.specs.declared.KeepaliveAnswer.TheVariants.{KeepaliveOk, KeepaliveParentLinkFailure}
-use Rattle.management.specs.declared.LeaveIndicationSlot.{LeaveIndicationSlot}
-use Rattle.management.specs.declared.LeaveIndicationSlot.TheVariants.{NoLeaveIndication, HasLeaveIndication}
 use Rattle.management.specs.declared.LeavingDevice.{LeavingDevice}
 use Rattle.management.specs.declared.LeavingDevice.TheVariants.{ThisDevice, NeighborByIeee, NeighborByShort}
 use Rattle.management.specs.declared.NegotiationAnswer.{NegotiationAnswer}
@@ -27,16 +21,10 @@ use Rattle.management.specs.declared.NlmeJoinStatus.TheVariants.{Success, Invali
 use Rattle.management.specs.declared.NlmeLeaveIndication.{NlmeLeaveIndication}
 use Rattle.management.specs.declared.PollAnswer.{PollAnswer}
 use Rattle.management.specs.declared.PollAnswer.TheVariants.{PollData, PollNothing, PollNotJoined, PollMacError, PollUndecodable}
-use Rattle.management.specs.declared.RejoinResponseSlot.{RejoinResponseSlot}
-use Rattle.management.specs.declared.RejoinResponseSlot.TheVariants.{NoRejoinResponse, HasRejoinResponse}
 use Rattle.management.specs.declared.ScanRange.{ScanRange}
 use Rattle.management.specs.declared.SendAnswer.{SendAnswer}
 use Rattle.management.specs.declared.SendAnswer.TheVariants.{SendOk, SendNotJoined, SendMacError, SendParentLinkFailure}
 use Rattle.management.specs.declared.Signals.{Signals}
-use Rattle.management.specs.declared.StatusIndicationSlot.{StatusIndicationSlot}
-use Rattle.management.specs.declared.StatusIndicationSlot.TheVariants.{NoStatusIndication, HasStatusIndication}
-use Rattle.management.specs.declared.TimeoutResponseSlot.{TimeoutResponseSlot}
-use Rattle.management.specs.declared.TimeoutResponseSlot.TheVariants.{NoTimeoutResponse, HasTimeoutResponse}
 use Rattle.management.specs.declared.frame.CommandHeader.{CommandHeader}
 use Rattle.management.specs.declared.frame.DataHeader.{DataHeader}
 use Rattle.management.specs.declared.frame.SentFrame.{SentFrame}
@@ -47,44 +35,41 @@ use Rattle.supervision.specs.declared.TransmitFailure.{TransmitFailure}
 use Rattle.nlme.specs.declared.Nlme.{Nlme}
 use Rattle.operation.specs.declared.AssociateRequest.{AssociateRequest}
 use Rattle.operation.specs.declared.Note.{Note}
-use Rattle.operation.specs.declared.Note.TheVariants.{NoNote, SetChannel, SetAddress}
+use Rattle.operation.specs.declared.Note.TheVariants.{SetChannel, SetAddress}
 use Rattle.operation.specs.declared.RadioRequest.{RadioRequest}
 use Rattle.operation.specs.declared.RadioRequest.TheVariants.{Scan, Associate, Transmit, Poll, Receive}
 use Rattle.operation.specs.declared.Step.{Step}
 use Rattle.operation.specs.declared.Step.TheVariants as step
-use Rattle.trace_lines.specs.declared.Line.{Line}
-use Rattle.trace_lines.specs.TraceLines.{zeros, no_line}
-use Rattle.trace.specs.Kind as kind
-use Rattle.trace.specs.Word as word
+use Rattle.operation.specs.declared.Refusal.{Refusal}
+use Rattle.operation.specs.Operation.{refusal_number}
+use Rattle.trace_lines.specs.declared.Field.{Field}
+use Rattle.trace_lines.specs.declared.Field.TheVariants.{Word, Short, Long, OrDash, Flag, U8, U16, U32}
+use Rattle.trace_lines.specs.declared.Word.TheVariants as word
+use Rattle.trace_lines.specs.declared.Word.{Word as Term}
+use Rattle.nib.specs.declared.IeeeAddress.{IeeeAddress}
+use Rattle.management.specs.declared.RejoinResponse.{RejoinResponse}
+use Rattle.management.specs.declared.EndDeviceTimeoutResponse.{EndDeviceTimeoutResponse}
+use Rattle.management.specs.declared.NlmeNwkStatusIndication.{NlmeNwkStatusIndication}
 
--- the numbers of a line: those of its fields, then zeros up to 20
-abbrev pub padded : List ℕ → List ℕ
-padded ns = over zeros ns
+-- a line: its fields in order
+abbrev pub Line : Type 0
+Line = List Field
 
--- a line of a kind; `dash` says that its field for an IEEE address is `-`. A count of 20 cuts no field off: a kind has at most 20
-abbrev pub line_by : ℕ → Bool → List ℕ → Line
-line_by k dash ns = record { kind = k; count = 20; dash = dash; numbers = padded ns }
+-- a line of a word alone, and a line of a word and the number of a refusal
+abbrev pub word_line : Term → Line
+word_line w = Word w ∷ []
 
--- a line of a word alone, and a line of a word and one field
-abbrev pub word_line : ℕ → Line
-word_line w = line_by kind.alone false (w ∷ [])
-
-abbrev pub field_line : ℕ → ℕ → ℕ → Line
-field_line k w n = line_by k false (w ∷ n ∷ [])
-
--- a flag is 1 or 0
-abbrev pub flag : Bool → ℕ
-flag b = cond b 1 0
+abbrev pub refusal_line : Refusal → Line
+refusal_line r = Word word.Refused ∷ U8 (refusal_number r) ∷ []
 
 -- The state: its node, the neighbour entries, the failure pairs, the slots.
 
 -- a node: its attributes, sequence number, pending timeout request and timer
-unfoldable pub nib_line : Nib → ℕ → ℕ → ℕ → Line
+abbrev pub nib_line : Nib → ℕ → ℕ → ℕ → Line
 nib_line n seq pending timer =
-    line_by kind.node false
-    (word.node ∷ n.network_address.0 ∷ n.ieee_address.0 ∷ n.extended_panid.0 ∷ n.panid.0 ∷ n.update_id
-    ∷ n.capability_information.0 ∷ n.stack_profile ∷ n.parent_information ∷ n.end_device_timeout ∷ n.end_device_timeout_default
-    ∷ flag n.leave_request_allowed ∷ seq ∷ pending ∷ timer ∷ [])
+    Word word.Node ∷ Short n.network_address.0 ∷ Long n.ieee_address.0 ∷ Long n.extended_panid.0 ∷ Short n.panid.0 ∷ U8 n.update_id
+    ∷ U8 n.capability_information.0 ∷ U8 n.stack_profile ∷ U8 n.parent_information ∷ U8 n.end_device_timeout ∷ U8 n.end_device_timeout_default
+    ∷ Flag n.leave_request_allowed ∷ U8 seq ∷ U8 pending ∷ U32 timer ∷ []
 
 abbrev pub node_line : Nlme → Line
 node_line n = nib_line n.nib n.nwk_seq n.pending_timeout_request n.parent_timer.remaining_ms
@@ -97,177 +82,166 @@ device_type_number EndDevice = 2
 device_type_number (Invalid n) = n
 
 -- the fields in the source's order
-unfoldable pub entry_line : NwkNeighbor → Line
+abbrev pub entry_line : NwkNeighbor → Line
 entry_line e =
-    line_by kind.entry false
-    (word.e ∷ e.extended_address.0 ∷ e.network_address.0 ∷ device_type_number e.device_type ∷ flag e.rx_on_when_idle
-    ∷ e.end_device_configuration ∷ e.relationship ∷ e.lqi ∷ e.outgoing_cost ∷ e.age ∷ flag e.keepalive_received
-    ∷ e.extended_pan_id.0 ∷ e.logical_channel ∷ e.depth ∷ flag e.permit_joining ∷ e.potential_parent
-    ∷ flag e.router_capacity ∷ flag e.end_device_capacity ∷ e.update_id ∷ e.pan_id.0 ∷ [])
+    Word word.E ∷ Long e.extended_address.0 ∷ Short e.network_address.0 ∷ U8 (device_type_number e.device_type) ∷ Flag e.rx_on_when_idle
+    ∷ U16 e.end_device_configuration ∷ U8 e.relationship ∷ U8 e.lqi ∷ U8 e.outgoing_cost ∷ U8 e.age ∷ Flag e.keepalive_received
+    ∷ Long e.extended_pan_id.0 ∷ U8 e.logical_channel ∷ U8 e.depth ∷ Flag e.permit_joining ∷ U8 e.potential_parent
+    ∷ Flag e.router_capacity ∷ Flag e.end_device_capacity ∷ U8 e.update_id ∷ Short e.pan_id.0 ∷ []
 
 abbrev pub failure_line : TransmitFailure → Line
-failure_line p = line_by kind.pair false (word.f ∷ p.address.0 ∷ p.count ∷ [])
+failure_line p = Word word.F ∷ Short p.address.0 ∷ U8 p.count ∷ []
 
-abbrev pub rejoin_response_line : RejoinResponseSlot → Line
-rejoin_response_line NoRejoinResponse = no_line
-rejoin_response_line (HasRejoinResponse r) = line_by kind.pair false (word.rejoin_response_number ∷ r.network_address.0 ∷ r.status ∷ [])
+-- a slot that is full has a line
+abbrev pub rejoin_response_line : RejoinResponse → Line
+rejoin_response_line r = Word word.RejoinResponse ∷ Short r.network_address.0 ∷ U8 r.status ∷ []
 
-abbrev pub timeout_response_line : TimeoutResponseSlot → Line
-timeout_response_line NoTimeoutResponse = no_line
-timeout_response_line (HasTimeoutResponse r) = line_by kind.timeout_response_number false (word.timeout_response_number ∷ r.status ∷ r.parent_information ∷ [])
+abbrev pub timeout_response_line : EndDeviceTimeoutResponse → Line
+timeout_response_line r = Word word.TimeoutResponse ∷ U8 r.status ∷ U8 r.parent_information ∷ []
 
--- whose leave it is: `-` this device's, 16 digits a neighbour's by IEEE address, 4 digits a neighbour's by short address; then the rejoin bit
-abbrev pub device_line : LeavingDevice → ℕ → Line
-device_line ThisDevice rejoin = line_by kind.leave_indication_number true (word.leave_indication_number ∷ 0 ∷ rejoin ∷ [])
-device_line (NeighborByIeee a) rejoin = line_by kind.leave_indication_number false (word.leave_indication_number ∷ a.0 ∷ rejoin ∷ [])
-device_line (NeighborByShort a) rejoin = line_by kind.pair false (word.leave_indication_number ∷ a.0 ∷ rejoin ∷ [])
+-- whose leave it is: `-` this device's, 16 digits a neighbour's by IEEE address, 4 digits a neighbour's by short address
+abbrev pub device_field : LeavingDevice → Field
+device_field ThisDevice = OrDash None
+device_field (NeighborByIeee a) = OrDash (Some a.0)
+device_field (NeighborByShort a) = Short a.0
 
-abbrev pub indication_line : NlmeLeaveIndication → Line
-indication_line i = device_line i.device (flag i.rejoin)
+-- then the rejoin bit
+abbrev pub leave_line : NlmeLeaveIndication → Line
+leave_line i = Word word.LeaveIndication ∷ device_field i.device ∷ Flag i.rejoin ∷ []
 
--- an indication, or the line that stands for an empty slot
-abbrev pub leave_line : Line → LeaveIndicationSlot → Line
-leave_line empty NoLeaveIndication = empty
-leave_line empty (HasLeaveIndication i) = indication_line i
-
-abbrev pub status_line : Line → StatusIndicationSlot → Line
-status_line empty NoStatusIndication = empty
-status_line empty (HasStatusIndication i) = field_line kind.address word.status_indication i.network_address.0
+abbrev pub status_line : NlmeNwkStatusIndication → Line
+status_line i = Word word.StatusIndication ∷ Short i.network_address.0 ∷ []
 
 -- what is printed behind the failure pairs: of the four slots those that are full, and the line that ends a state
-abbrev pub slot_lines : Signals → List Line
+abbrev pub slot_lines : Signals → List (Option Line)
 slot_lines s =
-    rejoin_response_line s.rejoin_response ∷ timeout_response_line s.timeout_response ∷ leave_line no_line s.leave_indication
-    ∷ status_line no_line s.nwk_status_indication ∷ word_line word.end ∷ []
+    option_map rejoin_response_line s.rejoin_response ∷ option_map timeout_response_line s.timeout_response
+    ∷ option_map leave_line s.leave_indication ∷ option_map status_line s.nwk_status_indication ∷ Some (word_line word.End) ∷ []
 
 -- A call's answer: the reset note, the note, and the request, confirm, answer or refusal.
 
-abbrev pub reset_line : Bool → Line
-reset_line reset = cond reset (word_line word.reset) no_line
+abbrev pub reset_line : Bool → Option Line
+reset_line reset = cond reset (Some (word_line word.Reset)) None
 
 abbrev pub note_line : Note → Line
-note_line NoNote = no_line
-note_line (SetChannel c) = field_line kind.number word.set_channel c
-note_line (SetAddress a) = field_line kind.address word.set_address a.0
+note_line (SetChannel c) = Word word.SetChannel ∷ U8 c ∷ []
+note_line (SetAddress a) = Word word.SetAddress ∷ Short a.0 ∷ []
 
 abbrev pub scan_line : ScanRange → Line
-scan_line r = line_by kind.scan false (word.scan ∷ r.first ∷ r.past ∷ r.duration ∷ [])
+scan_line r = Word word.Scan ∷ U8 r.first ∷ U8 r.past ∷ U8 r.duration ∷ []
 
-unfoldable pub associate_line : AssociateRequest → Line
+abbrev pub associate_line : AssociateRequest → Line
 associate_line r =
-    line_by kind.associate false
-    (word.associate ∷ r.channel ∷ r.pan_id.0 ∷ r.address.0 ∷ flag r.capabilities.full_function_device ∷ flag r.capabilities.mains_power
-    ∷ flag r.capabilities.idle_receive ∷ flag r.capabilities.frame_protection ∷ flag r.capabilities.allocate_address ∷ [])
-
--- an IEEE address: its number, 0 where there is none, which is printed as `-`
-abbrev pub is_none : OptionalIeee → Bool
-is_none NoIeee = true
-is_none (Ieee a) = false
-
-abbrev pub ieee_number : OptionalIeee → ℕ
-ieee_number NoIeee = 0
-ieee_number (Ieee a) = a.0
-
--- a command frame that is sent: its word, its header, and what it carries
-abbrev pub command_line : ℕ → PanId → ShortAddress → ℕ → CommandHeader → List ℕ → Line
-command_line k pan address w h carried =
-    line_by k (is_none h.destination_ieee)
-    (word.transmit ∷ pan.0 ∷ address.0 ∷ w ∷ h.destination.0 ∷ ieee_number h.destination_ieee ∷ h.source.0 ∷ h.source_ieee.0
-    ∷ h.sequence_number ∷ flag h.secure ∷ carried)
+    Word word.Associate ∷ U8 r.channel ∷ Short r.pan_id.0 ∷ Short r.address.0 ∷ Flag r.capabilities.full_function_device
+    ∷ Flag r.capabilities.mains_power ∷ Flag r.capabilities.idle_receive ∷ Flag r.capabilities.frame_protection
+    ∷ Flag r.capabilities.allocate_address ∷ []
 
 abbrev pub data_line : PanId → ShortAddress → DataHeader → Line
 data_line pan address h =
-    line_by kind.sent_data false
-    (word.transmit ∷ pan.0 ∷ address.0 ∷ word.data_frame ∷ h.destination.0 ∷ h.source.0 ∷ h.sequence_number ∷ flag h.secure ∷ [])
+    Word word.Transmit ∷ Short pan.0 ∷ Short address.0 ∷ Word word.DataFrame ∷ Short h.destination.0 ∷ Short h.source.0
+    ∷ U8 h.sequence_number ∷ Flag h.secure ∷ []
 
-unfoldable pub command_frame_line : PanId → ShortAddress → CommandHeader → SentCommand → Line
-command_frame_line pan address h (RejoinRequest c) = command_line kind.sent_request pan address word.rejoin_request h (c.0 ∷ [])
-command_frame_line pan address h (TimeoutRequest i) = command_line kind.sent_request pan address word.timeout_request h (i ∷ [])
-command_frame_line pan address h (Leave o) = command_line kind.sent_leave pan address word.leave h (flag o.rejoin ∷ flag o.remove_children ∷ [])
+-- a command frame that is sent: its word, its header, and what it carries
+abbrev pub command_line : PanId → ShortAddress → CommandHeader → Term → List Field → Line
+command_line pan address h w carried =
+    Word word.Transmit ∷ Short pan.0 ∷ Short address.0 ∷ Word w ∷ Short h.destination.0
+    ∷ OrDash (option_map (λ (a : IeeeAddress). a.0) h.destination_ieee) ∷ Short h.source.0 ∷ Long h.source_ieee.0
+    ∷ U8 h.sequence_number ∷ Flag h.secure ∷ carried
+
+abbrev pub command_frame_line : PanId → ShortAddress → CommandHeader → SentCommand → Line
+command_frame_line pan address h (RejoinRequest c) = command_line pan address h word.RejoinRequest (U8 c.0 ∷ [])
+command_frame_line pan address h (TimeoutRequest i) = command_line pan address h word.TimeoutRequest (U8 i ∷ [])
+command_frame_line pan address h (Leave o) = command_line pan address h word.Leave (Flag o.rejoin ∷ Flag o.remove_children ∷ [])
 
 unfoldable pub transmit_line : PanId → ShortAddress → SentFrame → Line
 transmit_line pan address (DataFrame h) = data_line pan address h
 transmit_line pan address (CommandFrame h command) = command_frame_line pan address h command
 
 abbrev pub poll_line : PanId → ShortAddress → Line
-poll_line pan address = line_by kind.poll false (word.poll ∷ pan.0 ∷ address.0 ∷ [])
+poll_line pan address = Word word.Poll ∷ Short pan.0 ∷ Short address.0 ∷ []
 
 unfoldable pub request_line : RadioRequest → Line
 request_line (Scan range) = scan_line range
 request_line (Associate r) = associate_line r
 request_line (Transmit t) = transmit_line t.pan_id t.address t.frame
 request_line (Poll pan address) = poll_line pan address
-request_line Receive = word_line word.receive
+request_line Receive = word_line word.Receive
 
 -- the words of a status and of the answers
-abbrev pub status_word : NlmeJoinStatus → ℕ
-status_word Success = word.success
-status_word InvalidRequest = word.invalid_request
-status_word NotPermitted = word.not_permitted
-status_word NoNetworks = word.no_networks
-status_word PanAtCapacity = word.pan_at_capacity
-status_word PanAccessDenied = word.pan_access_denied
-status_word MacError = word.mac_error
+abbrev pub status_word : NlmeJoinStatus → Term
+status_word Success = word.Success
+status_word InvalidRequest = word.InvalidRequest
+status_word NotPermitted = word.NotPermitted
+status_word NoNetworks = word.NoNetworks
+status_word PanAtCapacity = word.PanAtCapacity
+status_word PanAccessDenied = word.PanAccessDenied
+status_word MacError = word.MacError
 
-abbrev pub send_word : SendAnswer → ℕ
-send_word SendOk = word.ok
-send_word SendNotJoined = word.not_joined
-send_word SendMacError = word.mac_error
-send_word SendParentLinkFailure = word.parent_link_failure
+abbrev pub send_word : SendAnswer → Term
+send_word SendOk = word.Ok
+send_word SendNotJoined = word.NotJoined
+send_word SendMacError = word.MacError
+send_word SendParentLinkFailure = word.ParentLinkFailure
 
-abbrev pub poll_word : PollAnswer → ℕ
-poll_word PollData = word.polled_data
-poll_word PollNothing = word.polled_nothing
-poll_word PollNotJoined = word.not_joined
-poll_word PollMacError = word.mac_error
-poll_word PollUndecodable = word.undecodable
+abbrev pub poll_word : PollAnswer → Term
+poll_word PollData = word.PolledData
+poll_word PollNothing = word.PolledNothing
+poll_word PollNotJoined = word.NotJoined
+poll_word PollMacError = word.MacError
+poll_word PollUndecodable = word.Undecodable
 
-abbrev pub negotiation_word : NegotiationAnswer → ℕ
-negotiation_word Negotiated = word.digit_one
-negotiation_word NotNegotiated = word.digit_zero
-negotiation_word NegotiationNotJoined = word.not_joined
-negotiation_word NegotiationMacError = word.mac_error
+-- 1, 0 or a word
+abbrev pub negotiation_field : NegotiationAnswer → Field
+negotiation_field Negotiated = U8 1
+negotiation_field NotNegotiated = U8 0
+negotiation_field NegotiationNotJoined = Word word.NotJoined
+negotiation_field NegotiationMacError = Word word.MacError
 
-abbrev pub keepalive_word : KeepaliveAnswer → ℕ
-keepalive_word KeepaliveOk = word.ok
-keepalive_word KeepaliveParentLinkFailure = word.parent_link_failure
+abbrev pub keepalive_word : KeepaliveAnswer → Term
+keepalive_word KeepaliveOk = word.Ok
+keepalive_word KeepaliveParentLinkFailure = word.ParentLinkFailure
 
 abbrev pub confirm_line : NlmeJoinConfirm → Line
-confirm_line c =
-    line_by kind.confirm false (word.confirm ∷ status_word c.status ∷ c.network_address.0 ∷ c.extended_pan_id.0 ∷ c.channel ∷ [])
+confirm_line c = Word word.Confirm ∷ Word (status_word c.status) ∷ Short c.network_address.0 ∷ Long c.extended_pan_id.0 ∷ U8 c.channel ∷ []
+
+-- what was taken, or that the slot was empty
+abbrev pub taken_line : {A : Type 0} → (A → Line) → Option A → Line
+taken_line f None = word_line word.Nothing
+taken_line f (Some i) = f i
 
 -- n is the number of networks, whose lines follow a discovery's answer; a page that is written is printed as it stands, with no line before it
-unfoldable pub step_line : Step → ℕ → Line
-step_line (step.Refused k) n = field_line kind.number word.refused k
-step_line (step.Ask r) n = request_line r
-step_line step.Discovered n = field_line kind.number word.discovered n
-step_line step.DiscoveryFailed n = word_line word.discovery_failed
-step_line (step.Joined c) n = confirm_line c
-step_line (step.Sent a) n = field_line kind.answer word.send_answer (send_word a)
-step_line (step.Polled a) n = field_line kind.answer word.poll_answer (poll_word a)
-step_line (step.NegotiationOver a) n = field_line kind.answer word.negotiated (negotiation_word a)
-step_line (step.KeepaliveOver a) n = field_line kind.answer word.keepalive_answer (keepalive_word a)
-step_line (step.Expired b) n = field_line kind.expired word.expired (flag b)
-step_line (step.LeaveTaken slot) n = leave_line (word_line word.nothing) slot
-step_line (step.StatusTaken slot) n = status_line (word_line word.nothing) slot
-step_line step.PageWritten n = no_line
-step_line step.Done n = word_line word.done
+unfoldable pub step_line : Step → ℕ → Option Line
+step_line (step.Refused r) n = Some (refusal_line r)
+step_line (step.Ask r) n = Some (request_line r)
+step_line step.Discovered n = Some (Word word.Discovered ∷ U8 n ∷ [])
+step_line step.DiscoveryFailed n = Some (word_line word.DiscoveryFailed)
+step_line (step.Joined c) n = Some (confirm_line c)
+step_line (step.Sent a) n = Some (Word word.SendAnswer ∷ Word (send_word a) ∷ [])
+step_line (step.Polled a) n = Some (Word word.PollAnswer ∷ Word (poll_word a) ∷ [])
+step_line (step.NegotiationOver a) n = Some (Word word.Negotiated ∷ negotiation_field a ∷ [])
+step_line (step.KeepaliveOver a) n = Some (Word word.KeepaliveAnswer ∷ Word (keepalive_word a) ∷ [])
+step_line (step.Expired b) n = Some (Word word.Expired ∷ Flag b ∷ [])
+step_line (step.LeaveTaken slot) n = Some (taken_line leave_line slot)
+step_line (step.StatusTaken slot) n = Some (taken_line status_line slot)
+step_line step.PageWritten n = None
+step_line step.Done n = Some (word_line word.Done)
 
 -- a network that a discovery tells of
-unfoldable pub descriptor_line : NetworkDescriptor → Line
+abbrev pub descriptor_line : NetworkDescriptor → Line
 descriptor_line d =
-    line_by kind.network false
-    (word.d ∷ d.extended_pan_id.0 ∷ d.pan_id.0 ∷ d.update_id ∷ d.logical_channel ∷ d.stack_profile ∷ d.zigbee_version
-    ∷ d.beacon_order ∷ d.superframe_order ∷ flag d.permit_joining ∷ flag d.router_capacity ∷ flag d.end_device_capacity ∷ [])
+    Word word.D ∷ Long d.extended_pan_id.0 ∷ Short d.pan_id.0 ∷ U8 d.update_id ∷ U8 d.logical_channel ∷ U8 d.stack_profile
+    ∷ U8 d.zigbee_version ∷ U8 d.beacon_order ∷ U8 d.superframe_order ∷ Flag d.permit_joining ∷ Flag d.router_capacity
+    ∷ Flag d.end_device_capacity ∷ []
 
 -- the candidates' indexes, as many fields as there are
 abbrev pub candidates_line : List ℕ → Line
-candidates_line l = record { kind = kind.candidates; count = length l + 1; dash = false; numbers = padded (word.candidates ∷ l) }
+candidates_line l = Word word.Candidates ∷ map U8 l
 
--- the answer to a choice of candidates: a refusal other than 0, or the candidates
-abbrev pub choice_line : ℕ → CandidateList → Line
-choice_line refusal list = cond (eqb refusal 0) (candidates_line (items_of list)) (field_line kind.number word.refused refusal)
+-- the answer to a choice of candidates
+abbrev pub choice_line : Result CandidateList Refusal → Line
+choice_line (Ok list) = candidates_line (items_of list)
+choice_line (Err r) = refusal_line r
 
 -- the line with this number is not of the format
 abbrev pub bad_line : ℕ → Line
-bad_line n = field_line kind.number word.bad n
+bad_line n = Word word.Bad ∷ U32 n ∷ []

@@ -1,5 +1,5 @@
 -- What a line of a trace leaves and prints (compare/FORMAT.md, "Output").
-use Rattle.std.specs.Prelude.{ℕ, ◌+◌, min, Bool, true, false, cond, not, eqb, take, length}
+use Rattle.std.specs.Prelude.{Option, Some, None, option_map, ℕ, ◌+◌, min, Bool, true, false, not, take, length}
 use mathlib.Core.List.{List, [], ◌∷◌, ◌++◌, map, flat_map}
 use Rattle.nib.specs.Neighbors.{entries_of}
 use Rattle.nib.specs.declared.NwkNeighbor.{NwkNeighbor}
@@ -7,54 +7,54 @@ use Rattle.neighbor_page.specs.Page.{page}
 use Rattle.discovery.specs.declared.NetworkDescriptor.{NetworkDescriptor}
 use Rattle.discovery.specs.declared.NlmeNetworkDiscoveryConfirm.{NlmeNetworkDiscoveryConfirm}
 use Rattle.supervision.specs.Failures.{pairs_of}
-use Rattle.operation.specs.declared.Note.{Note}
 use Rattle.operation.specs.declared.Step.{Step}
 use Rattle.operation.specs.declared.Step.TheVariants as step
 use Rattle.nlme.specs.declared.Nlme.{Nlme}
 use Rattle.node.specs.Calls.{page_answer}
 use Rattle.node.specs.declared.State.{State}
-use Rattle.trace_lines.specs.declared.Line.{Line}
 use Rattle.trace_lines.specs.TraceLines.{line_of, line_text}
 use Rattle.trace_input.specs.TraceInput.{call_of}
 use Rattle.trace_calls.specs.TraceCalls.{taken}
 use Rattle.trace_calls.specs.declared.Session.{Session}
+use Rattle.trace_calls.specs.declared.Answered.{Answered}
 use Rattle.trace_calls.specs.declared.Said.{Said}
 use Rattle.trace_calls.specs.declared.Said.TheVariants.{Bad, Nothing, Told, Chosen, Shown, Paged}
 use Rattle.trace_calls.specs.declared.Turn.{Turn}
-use Rattle.trace.specs.Kind as kind
-use Rattle.trace.specs.Lines.{reset_line, note_line, step_line, descriptor_line, node_line, entry_line, failure_line, slot_lines, choice_line, bad_line}
+use Rattle.trace.specs.Lines.{Line, reset_line, note_line, step_line, descriptor_line, node_line, entry_line, failure_line, slot_lines, choice_line, bad_line}
 use Rattle.trace.specs.declared.Run.{Run}
 
--- no line prints nothing
-unfoldable pub some_text : Line → List ℕ
-some_text l = cond (eqb l.kind kind.none) [] (line_text l)
+-- a line that is not printed has no text
+abbrev pub some_text : Option Line → List ℕ
+some_text None = []
+some_text (Some l) = line_text l
 
--- the networks that a discovery found
-abbrev pub networks_of : NlmeNetworkDiscoveryConfirm → List NetworkDescriptor
-networks_of c = take c.count c.network_descriptor
+abbrev pub lines_text : List (Option Line) → List ℕ
+lines_text ls = flat_map some_text ls
+
+-- the networks that a discovery found, and how many it tells of
+abbrev pub networks_of : Option NlmeNetworkDiscoveryConfirm → List NetworkDescriptor
+networks_of None = []
+networks_of (Some c) = take c.count c.network_descriptor
+
+abbrev pub network_count : Option NlmeNetworkDiscoveryConfirm → ℕ
+network_count None = 0
+network_count (Some c) = c.count
+
+-- each element of a list has a line
+abbrev pub each_line : {A : Type 0} → (A → Line) → List A → List (Option Line)
+each_line f l = map (λ x. Some (f x)) l
 
 -- an answer: the reset note, the set-channel or set-address note, the request, confirm, answer or refusal; after `discovered` a `d` line for each network
-abbrev pub told_lines : Bool → Note → Step → NlmeNetworkDiscoveryConfirm → List Line
-told_lines reset note step c = reset_line reset ∷ note_line note ∷ step_line step c.count ∷ map descriptor_line (networks_of c)
+abbrev pub told_lines : Answered → List (Option Line)
+told_lines a =
+    reset_line a.reset ∷ option_map note_line a.note ∷ step_line a.step (network_count a.networks) ∷ each_line descriptor_line (networks_of a.networks)
 
 -- the state: the `node` line, the `e` lines; then the `f` lines, the slots that are full, and `end`
-abbrev pub nlme_lines : Nlme → List Line
-nlme_lines n = map failure_line (pairs_of n.transmit_failures) ++ slot_lines n.signals
+abbrev pub nlme_lines : Nlme → List (Option Line)
+nlme_lines n = each_line failure_line (pairs_of n.transmit_failures) ++ slot_lines n.signals
 
-abbrev pub state_lines : State → List Line
-state_lines s = node_line s.control.nlme ∷ (map entry_line (entries_of s.table) ++ nlme_lines s.control.nlme)
-
--- what a turn says; n is the number of its line
-abbrev pub lines_by : Said → ℕ → Turn → List Line
-lines_by Bad n t = bad_line n ∷ []
-lines_by Nothing n t = []
-lines_by (Told reset note step) n t = told_lines reset note step t.networks
-lines_by (Chosen refusal) n t = choice_line refusal t.list ∷ []
-lines_by Shown n t = state_lines t.session.state
-lines_by (Paged k) n t = []
-
-abbrev pub said_lines : ℕ → Turn → List Line
-said_lines n t = lines_by t.said n t
+abbrev pub state_lines : State → List (Option Line)
+state_lines s = Some (node_line s.control.nlme) ∷ (each_line entry_line (entries_of s.table) ++ nlme_lines s.control.nlme)
 
 -- the page behind the line of a step, as it stands (compare/FORMAT.md, "Output")
 abbrev pub page_bytes : Step → List NwkNeighbor → List ℕ
@@ -77,30 +77,30 @@ page_bytes step.Done es = []
 unfoldable pub page_text : ℕ → State → List ℕ
 page_text k s = some_text (step_line (page_answer k s).step 0) ++ page_bytes (page_answer k s).step (entries_of s.table)
 
-abbrev pub page_by : Said → State → List ℕ
-page_by (Paged k) s = page_text k s
-page_by Bad s = []
-page_by Nothing s = []
-page_by (Told reset note step) s = []
-page_by (Chosen refusal) s = []
-page_by Shown s = []
+-- what a turn prints: its lines, or its page; n is the number of its line
+abbrev pub text_by : Said → ℕ → State → List ℕ
+text_by Bad n s = line_text (bad_line n)
+text_by Nothing n s = []
+text_by (Told a) n s = lines_text (told_lines a)
+text_by (Chosen choice) n s = line_text (choice_line choice)
+text_by Shown n s = lines_text (state_lines s)
+text_by (Paged k) n s = page_text k s
 
--- the lines of a turn, or its page
-unfoldable pub text_of : ℕ → Turn → List ℕ
-text_of n t = flat_map some_text (said_lines n t) ++ page_by t.said t.session.state
+abbrev pub text_of : ℕ → Turn → List ℕ
+text_of n t = text_by t.said n t.session.state
 
 -- the line is not of the format
 abbrev pub is_bad : Said → Bool
 is_bad Bad = true
 is_bad Nothing = false
-is_bad (Told reset note step) = false
-is_bad (Chosen refusal) = false
+is_bad (Told a) = false
+is_bad (Chosen choice) = false
 is_bad Shown = false
 is_bad (Paged k) = false
 
 -- the call that a line says, made on the session
 unfoldable pub turn_of : List ℕ → Session → Turn
-turn_of line s = taken (call_of (line_of line)) s
+turn_of line s = taken (option_map call_of (line_of line)) s
 
 -- lines are counted from 1, up to the greatest number of 32 bits
 abbrev pub number_after : ℕ → ℕ

@@ -1,21 +1,16 @@
-// A trace answered line by line: a line read, its call made, and what is said of it printed. A line of kind 255 is no line.
+// A trace answered line by line: a line read, its call made, and what is said of it printed.
 #![tactic(auto)]
 
-ghost use Rattle.std.specs.Prelude.{◌≡◌, ◌+◌, ◌≤◌, ◌<◌, min, length, get_or};
-ghost use mathlib.Core.List.{[], ◌∷◌, map, flat_map};
-ghost use Rattle.std.proofs.lemmas.List.Edits.{sets};
+ghost use Rattle.std.specs.Prelude.{◌≡◌, ◌+◌, ◌*◌, ◌≤◌, min, length, option_map};
+ghost use mathlib.Core.List.{[], ◌∷◌};
 ghost use Rattle.lists.specs.Lists.{over};
-ghost use Rattle.nib.specs.Neighbors.{entries_of};
 ghost use Rattle.candidates.specs.Candidates.{items_of};
-ghost use Rattle.supervision.specs.Failures.{pairs_of};
-ghost use Rattle.trace_lines.specs.TraceLines.{no_line};
-ghost use Rattle.trace.specs.Kind as kind;
-ghost use Rattle.trace.specs.Word as word;
+ghost use Rattle.trace_lines.specs.TraceLines.{Wrote};
+ghost use Rattle.trace.specs.Private.{WroteLine, WroteSome, WroteLines};
 ghost use Rattle.trace.specs.Lines.{
-  line_by,
+  Line,
   word_line,
-  field_line,
-  flag,
+  refusal_line,
   nib_line,
   node_line,
   device_type_number,
@@ -23,8 +18,7 @@ ghost use Rattle.trace.specs.Lines.{
   failure_line,
   rejoin_response_line,
   timeout_response_line,
-  device_line,
-  indication_line,
+  device_field,
   leave_line,
   status_line,
   slot_lines,
@@ -32,8 +26,6 @@ ghost use Rattle.trace.specs.Lines.{
   note_line,
   scan_line,
   associate_line,
-  is_none,
-  ieee_number,
   data_line,
   command_line,
   command_frame_line,
@@ -43,38 +35,33 @@ ghost use Rattle.trace.specs.Lines.{
   status_word,
   send_word,
   poll_word,
-  negotiation_word,
+  negotiation_field,
   keepalive_word,
   confirm_line,
+  taken_line,
   step_line,
   descriptor_line,
   candidates_line,
   choice_line,
   bad_line,
 };
-ghost use Rattle.trace.specs.Trace.{networks_of, told_lines, nlme_lines, state_lines, said_lines, some_text, page_text, text_of, is_bad, turn_of, number_after, printed, after};
+ghost use Rattle.trace.specs.Trace.{networks_of, network_count, each_line, told_lines, nlme_lines, state_lines, page_text, text_of, is_bad, turn_of, number_after, printed, after};
 
 use candidates::CandidateList;
-use discovery::{MAX_NETWORK_DESCRIPTORS, NetworkDescriptor, NlmeNetworkDiscoveryConfirm};
+use discovery::{NetworkDescriptor, NlmeNetworkDiscoveryConfirm};
 use management::frame::{CommandHeader, DataHeader, SentCommand, SentFrame};
 use management::{
-    KeepaliveAnswer, LeaveIndicationSlot, LeavingDevice, NegotiationAnswer, NlmeJoinConfirm,
-    NlmeJoinStatus, NlmeLeaveIndication, PollAnswer, RejoinResponseSlot, ScanRange, SendAnswer,
-    Signals, StatusIndicationSlot, TimeoutResponseSlot,
+    EndDeviceTimeoutResponse, KeepaliveAnswer, LeavingDevice, NegotiationAnswer, NlmeJoinConfirm,
+    NlmeJoinStatus, NlmeLeaveIndication, NlmeNwkStatusIndication, PollAnswer, RejoinResponse,
+    ScanRange, SendAnswer, Signals,
 };
-use nib::{
-    DeviceType, MAX_NEIGBOUR_TABLE, NeighborTable, Nib, NwkNeighbor, OptionalIeee, PanId,
-    ShortAddress,
-};
+use nib::{DeviceType, Nib, NwkNeighbor, PanId, ShortAddress};
 use nlme::Nlme;
 use node::State;
-use operation::{AssociateRequest, Note, RadioRequest, Step};
-use supervision::{TransmitFailure, TransmitFailures};
-use trace_calls::{Said, Session, Turn};
-use trace_lines::Line;
-
-mod kind;
-mod word;
+use operation::{AssociateRequest, Note, RadioRequest, Refusal, Step};
+use supervision::TransmitFailure;
+use trace_calls::{Answered, Said, Session, Turn};
+use trace_lines::{Field, Word};
 
 // The session after the lines so far, how many they were, whether the last of them was of the format, and how many bytes it printed.
 #[derive(Clone, Copy)]
@@ -85,959 +72,741 @@ pub struct Run {
     pub length: usize,
 }
 
-// What a node answers, as lines.
+// What a node answers, as lines. Each function writes at a place of a buffer, as far as it fits, and returns how long it is.
 
-fn no_line() -> Line
-    ensures { result ≡ no_line }
+// A line by its fields.
+fn print_line(out: &mut [u8], at: usize, line: &[Field]) -> usize
+    requires { at ≤ 16000 }
+    ensures { WroteLine out.old at out.new result line.now }
 {
-    Line {
-        kind: kind::NONE,
-        count: 0,
-        dash: false,
-        numbers: [0; 20],
-    }
-}
-
-// A line of at most five fields.
-fn short_line(kind: u8, dash: bool, w: u64, a: u64, b: u64, c: u64, d: u64) -> Line
-    ensures { result ≡ line_by kind dash (w ∷ a ∷ b ∷ c ∷ d ∷ []) }
-{
-    let numbers = [w, a, b, c, d, 0, 0, 0, 0, 0, 0, 0, 0, 0, 0, 0, 0, 0, 0, 0];
-    Line {
-        kind,
-        count: 20,
-        dash,
-        numbers,
-    }
+    trace_lines::write_line(out, at as u16, line)
 }
 
 // A line of a word alone.
-fn word_line(w: u64) -> Line
-    ensures { result ≡ word_line w }
+fn print_word(out: &mut [u8], at: usize, word: Word) -> usize
+    requires { at ≤ 16000 }
+    ensures { WroteLine out.old at out.new result (word_line word) }
 {
-    short_line(kind::ALONE, false, w, 0, 0, 0, 0)
+    print_line(out, at, &[Field::Word(word)])
 }
 
-// A line of a word and one field, by the letters of a kind.
-fn field_line(kind: u8, w: u64, n: u64) -> Line
-    ensures { result ≡ field_line kind w n }
+fn print_refusal(out: &mut [u8], at: usize, refusal: Refusal) -> usize
+    requires { at ≤ 16000 }
+    ensures { WroteLine out.old at out.new result (refusal_line refusal) }
 {
-    short_line(kind, false, w, n, 0, 0, 0)
+    print_line(
+        out,
+        at,
+        &[Field::Word(Word::Refused), Field::U8(refusal.number())],
+    )
 }
 
-fn flag(b: bool) -> u64
-    ensures { result ≡ flag b }
-{
-    if b { 1 } else { 0 }
+// What has a line of its own.
+trait Printed: Copy {
+    // the fields of its line
+    ghost line: { Self → Line };
+
+    fn print(self, out: &mut [u8], at: usize) -> usize
+        requires { at ≤ 16000 }
+        ensures { WroteLine out.old at out.new result (line self) };
 }
 
-fn from_u8(n: u8) -> u64
-    ensures { result ≡ n }
+// What may be there; nothing where it isn't.
+fn print_some<T: Printed>(out: &mut [u8], at: usize, slot: Option<T>) -> usize
+    requires { at ≤ 16000 }
+    ensures { WroteSome out.old at out.new result (option_map T.line slot) }
 {
-    n as u64
+    match slot {
+        Some(x) => x.print(out, at),
+        None => 0,
+    }
 }
 
-fn from_u16(n: u16) -> u64
-    ensures { result ≡ n }
+// Each element of a list.
+fn print_each<T: Printed>(out: &mut [u8], at: usize, items: &[T]) -> usize
+    requires { at + 420 * length items.now ≤ 16000 }
+    ensures { WroteLines out.old at out.new result (each_line T.line items.now) }
 {
-    n as u64
-}
-
-fn from_u32(n: u32) -> u64
-    ensures { result ≡ n }
-{
-    n as u64
-}
-
-// A line of a word and a number, or a short address.
-fn number_line(w: u64, n: u8) -> Line
-    ensures { result ≡ field_line kind.number w n }
-{
-    field_line(kind::NUMBER, w, from_u8(n))
-}
-
-fn address_line(w: u64, address: ShortAddress) -> Line
-    ensures { result ≡ field_line kind.address w address.0 }
-{
-    field_line(kind::ADDRESS, w, from_u16(address.0))
+    let mut written = 0;
+    for x in items {
+        written += x.print(out, at + written);
+    }
+    written
 }
 
 // The line of a node, from its attributes, sequence number, pending timeout request and timer.
-fn nib_line(nib: Nib, nwk_seq: u8, pending: u8, timer: u32) -> Line
-    ensures { result ≡ nib_line nib nwk_seq pending timer }
+fn print_nib(out: &mut [u8], nib: Nib, nwk_seq: u8, pending: u8, timer: u32) -> usize
+    ensures { WroteLine out.old 0 out.new result (nib_line nib nwk_seq pending timer) }
 {
-    let numbers = [
-        word::NODE,
-        from_u16(nib.network_address.0),
-        nib.ieee_address.0,
-        nib.extended_panid.0,
-        from_u16(nib.panid.0),
-        from_u8(nib.update_id),
-        from_u8(nib.capability_information.0),
-        from_u8(nib.stack_profile),
-        from_u8(nib.parent_information),
-        from_u8(nib.end_device_timeout),
-        from_u8(nib.end_device_timeout_default),
-        flag(nib.leave_request_allowed),
-        from_u8(nwk_seq),
-        from_u8(pending),
-        from_u32(timer),
+    print_line(
+        out,
         0,
-        0,
-        0,
-        0,
-        0,
-    ];
-    Line {
-        kind: kind::NODE,
-        count: 20,
-        dash: false,
-        numbers,
-    }
+        &[
+            Field::Word(Word::Node),
+            Field::Short(nib.network_address.0),
+            Field::Long(nib.ieee_address.0),
+            Field::Long(nib.extended_panid.0),
+            Field::Short(nib.panid.0),
+            Field::U8(nib.update_id),
+            Field::U8(nib.capability_information.0),
+            Field::U8(nib.stack_profile),
+            Field::U8(nib.parent_information),
+            Field::U8(nib.end_device_timeout),
+            Field::U8(nib.end_device_timeout_default),
+            Field::Flag(nib.leave_request_allowed),
+            Field::U8(nwk_seq),
+            Field::U8(pending),
+            Field::U32(timer),
+        ],
+    )
 }
 
-fn node_line(nlme: Nlme) -> Line
-    ensures { result ≡ node_line nlme }
+fn print_node(out: &mut [u8], nlme: Nlme) -> usize
+    ensures { WroteLine out.old 0 out.new result (node_line nlme) }
 {
-    let nib = nlme.nib;
+    let seq = nlme.nwk_seq;
+    let pending = nlme.pending_timeout_request;
     let timer = nlme.parent_timer.remaining_ms;
-    nib_line(nib, nlme.nwk_seq, nlme.pending_timeout_request, timer)
+    print_nib(out, nlme.nib, seq, pending, timer)
 }
 
-fn device_type_number(t: DeviceType) -> u64
+fn device_type_number(t: DeviceType) -> u8
     ensures { result ≡ device_type_number t }
 {
     match t {
-        DeviceType::Coordinator => return 0,
-        DeviceType::Router => return 1,
-        DeviceType::EndDevice => return 2,
-        DeviceType::Invalid(n) => return n as u64,
+        DeviceType::Coordinator => 0,
+        DeviceType::Router => 1,
+        DeviceType::EndDevice => 2,
+        DeviceType::Invalid(n) => n,
     }
 }
 
-fn entry_line(e: NwkNeighbor) -> Line
-    ensures { result ≡ entry_line e }
-{
-    let device_type = e.device_type;
-    let numbers = [
-        word::E,
-        e.extended_address.0,
-        from_u16(e.network_address.0),
-        device_type_number(device_type),
-        flag(e.rx_on_when_idle),
-        from_u16(e.end_device_configuration),
-        from_u8(e.relationship),
-        from_u8(e.lqi),
-        from_u8(e.outgoing_cost),
-        from_u8(e.age),
-        flag(e.keepalive_received),
-        e.extended_pan_id.0,
-        from_u8(e.logical_channel),
-        from_u8(e.depth),
-        flag(e.permit_joining),
-        from_u8(e.potential_parent),
-        flag(e.router_capacity),
-        flag(e.end_device_capacity),
-        from_u8(e.update_id),
-        from_u16(e.pan_id.0),
-    ];
-    Line {
-        kind: kind::ENTRY,
-        count: 20,
-        dash: false,
-        numbers,
+impl Printed for NwkNeighbor {
+    ghost line = { entry_line };
+
+    fn print(self, out: &mut [u8], at: usize) -> usize {
+        print_line(
+            out,
+            at,
+            &[
+                Field::Word(Word::E),
+                Field::Long(self.extended_address.0),
+                Field::Short(self.network_address.0),
+                Field::U8(device_type_number(self.device_type)),
+                Field::Flag(self.rx_on_when_idle),
+                Field::U16(self.end_device_configuration),
+                Field::U8(self.relationship),
+                Field::U8(self.lqi),
+                Field::U8(self.outgoing_cost),
+                Field::U8(self.age),
+                Field::Flag(self.keepalive_received),
+                Field::Long(self.extended_pan_id.0),
+                Field::U8(self.logical_channel),
+                Field::U8(self.depth),
+                Field::Flag(self.permit_joining),
+                Field::U8(self.potential_parent),
+                Field::Flag(self.router_capacity),
+                Field::Flag(self.end_device_capacity),
+                Field::U8(self.update_id),
+                Field::Short(self.pan_id.0),
+            ],
+        )
     }
 }
 
-fn failure_line(p: TransmitFailure) -> Line
-    ensures { result ≡ failure_line p }
-{
-    short_line(
-        kind::PAIR,
-        false,
-        word::F,
-        from_u16(p.address.0),
-        from_u8(p.count),
-        0,
-        0,
-    )
-}
+impl Printed for TransmitFailure {
+    ghost line = { failure_line };
 
-fn rejoin_response_line(slot: RejoinResponseSlot) -> Line
-    ensures { result ≡ rejoin_response_line slot }
-{
-    match slot {
-        RejoinResponseSlot::NoRejoinResponse => return no_line(),
-        RejoinResponseSlot::HasRejoinResponse(r) => {
-            let address = from_u16(r.network_address.0);
-            let status = from_u8(r.status);
-            return short_line(
-                kind::PAIR,
-                false,
-                word::REJOIN_RESPONSE,
-                address,
-                status,
-                0,
-                0,
-            );
-        }
+    fn print(self, out: &mut [u8], at: usize) -> usize {
+        print_line(
+            out,
+            at,
+            &[
+                Field::Word(Word::F),
+                Field::Short(self.address.0),
+                Field::U8(self.count),
+            ],
+        )
     }
 }
 
-fn timeout_response_line(slot: TimeoutResponseSlot) -> Line
-    ensures { result ≡ timeout_response_line slot }
-{
-    match slot {
-        TimeoutResponseSlot::NoTimeoutResponse => return no_line(),
-        TimeoutResponseSlot::HasTimeoutResponse(r) => {
-            let status = from_u8(r.status);
-            let information = from_u8(r.parent_information);
-            return short_line(
-                kind::TIMEOUT_RESPONSE,
-                false,
-                word::TIMEOUT_RESPONSE,
-                status,
-                information,
-                0,
-                0,
-            );
-        }
+impl Printed for RejoinResponse {
+    ghost line = { rejoin_response_line };
+
+    fn print(self, out: &mut [u8], at: usize) -> usize {
+        print_line(
+            out,
+            at,
+            &[
+                Field::Word(Word::RejoinResponse),
+                Field::Short(self.network_address.0),
+                Field::U8(self.status),
+            ],
+        )
     }
 }
 
-fn device_line(device: LeavingDevice, rejoin: u64) -> Line
-    ensures { result ≡ device_line device rejoin }
+impl Printed for EndDeviceTimeoutResponse {
+    ghost line = { timeout_response_line };
+
+    fn print(self, out: &mut [u8], at: usize) -> usize {
+        print_line(
+            out,
+            at,
+            &[
+                Field::Word(Word::TimeoutResponse),
+                Field::U8(self.status),
+                Field::U8(self.parent_information),
+            ],
+        )
+    }
+}
+
+fn device_field(device: LeavingDevice) -> Field
+    ensures { result ≡ device_field device }
 {
     match device {
-        LeavingDevice::ThisDevice => {
-            return short_line(
-                kind::LEAVE_INDICATION,
-                true,
-                word::LEAVE_INDICATION,
-                0,
-                rejoin,
-                0,
-                0,
-            );
-        }
-        LeavingDevice::NeighborByIeee(ieee) => {
-            return short_line(
-                kind::LEAVE_INDICATION,
-                false,
-                word::LEAVE_INDICATION,
-                ieee.0,
-                rejoin,
-                0,
-                0,
-            );
-        }
-        LeavingDevice::NeighborByShort(address) => {
-            return short_line(
-                kind::PAIR,
-                false,
-                word::LEAVE_INDICATION,
-                from_u16(address.0),
-                rejoin,
-                0,
-                0,
-            );
-        }
+        LeavingDevice::ThisDevice => Field::OrDash(None),
+        LeavingDevice::NeighborByIeee(ieee) => Field::OrDash(Some(ieee.0)),
+        LeavingDevice::NeighborByShort(address) => Field::Short(address.0),
     }
 }
 
-fn indication_line(i: NlmeLeaveIndication) -> Line
-    ensures { result ≡ indication_line i }
+impl Printed for NlmeLeaveIndication {
+    ghost line = { leave_line };
+
+    fn print(self, out: &mut [u8], at: usize) -> usize {
+        print_line(
+            out,
+            at,
+            &[
+                Field::Word(Word::LeaveIndication),
+                device_field(self.device),
+                Field::Flag(self.rejoin),
+            ],
+        )
+    }
+}
+
+impl Printed for NlmeNwkStatusIndication {
+    ghost line = { status_line };
+
+    fn print(self, out: &mut [u8], at: usize) -> usize {
+        print_line(
+            out,
+            at,
+            &[
+                Field::Word(Word::StatusIndication),
+                Field::Short(self.network_address.0),
+            ],
+        )
+    }
+}
+
+// The slots that are full, and the end of a state.
+fn print_slots(out: &mut [u8], at: usize, signals: Signals) -> usize
+    requires { at ≤ 14000 }
+    ensures { WroteLines out.old at out.new result (slot_lines signals) }
 {
-    let device = i.device;
-    device_line(device, flag(i.rejoin))
+    let rejoin = print_some(out, at, signals.rejoin_response);
+    let timeout = print_some(out, at + rejoin, signals.timeout_response);
+    let two = rejoin + timeout;
+    let leave = print_some(out, at + two, signals.leave_indication);
+    let three = two + leave;
+    let status = print_some(out, at + three, signals.nwk_status_indication);
+    let four = three + status;
+    four + print_word(out, at + four, Word::End)
 }
 
-// The line of a slot, or `empty` where nothing is in it.
-fn leave_line(empty: Line, slot: LeaveIndicationSlot) -> Line
-    ensures { result ≡ leave_line empty slot }
-{
-    match slot {
-        LeaveIndicationSlot::NoLeaveIndication => return empty,
-        LeaveIndicationSlot::HasLeaveIndication(i) => return indication_line(i),
-    }
-}
-
-fn status_line(empty: Line, slot: StatusIndicationSlot) -> Line
-    ensures { result ≡ status_line empty slot }
-{
-    match slot {
-        StatusIndicationSlot::NoStatusIndication => return empty,
-        StatusIndicationSlot::HasStatusIndication(i) => {
-            let address = i.network_address;
-            return address_line(word::STATUS_INDICATION, address);
-        }
-    }
-}
-
-// Line i of the slots and the end of a state.
-fn slot_line(signals: Signals, i: u8) -> Line
-    requires { i < 5 }
-    ensures { result ≡ get_or (slot_lines signals) i no_line }
-{
-    if i == 0 {
-        let slot = signals.rejoin_response;
-        return rejoin_response_line(slot);
-    }
-    if i == 1 {
-        let slot = signals.timeout_response;
-        return timeout_response_line(slot);
-    }
-    if i == 2 {
-        let slot = signals.leave_indication;
-        return leave_line(no_line(), slot);
-    }
-    if i == 3 {
-        let slot = signals.nwk_status_indication;
-        return status_line(no_line(), slot);
-    }
-    word_line(word::END)
-}
-
-fn reset_line(reset: bool) -> Line
-    ensures { result ≡ reset_line reset }
+fn print_reset(out: &mut [u8], reset: bool) -> usize
+    ensures { WroteSome out.old 0 out.new result (reset_line reset) }
 {
     if reset {
-        return word_line(word::RESET);
+        return print_word(out, 0, Word::Reset);
     }
-    no_line()
+    0
 }
 
-fn note_line(note: Note) -> Line
-    ensures { result ≡ note_line note }
-{
-    match note {
-        Note::NoNote => return no_line(),
-        Note::SetChannel(channel) => return number_line(word::SET_CHANNEL, channel),
-        Note::SetAddress(address) => return address_line(word::SET_ADDRESS, address),
+impl Printed for Note {
+    ghost line = { note_line };
+
+    fn print(self, out: &mut [u8], at: usize) -> usize {
+        match self {
+            Note::SetChannel(channel) => {
+                print_line(
+                    out,
+                    at,
+                    &[Field::Word(Word::SetChannel), Field::U8(channel)],
+                )
+            }
+            Note::SetAddress(address) => {
+                print_line(
+                    out,
+                    at,
+                    &[Field::Word(Word::SetAddress), Field::Short(address.0)],
+                )
+            }
+        }
     }
 }
 
-fn scan_line(r: ScanRange) -> Line
-    ensures { result ≡ scan_line r }
+fn print_scan(out: &mut [u8], at: usize, range: ScanRange) -> usize
+    requires { at ≤ 16000 }
+    ensures { WroteLine out.old at out.new result (scan_line range) }
 {
-    short_line(
-        kind::SCAN,
-        false,
-        word::SCAN,
-        from_u8(r.first),
-        from_u8(r.past),
-        from_u8(r.duration),
-        0,
+    print_line(
+        out,
+        at,
+        &[
+            Field::Word(Word::Scan),
+            Field::U8(range.first),
+            Field::U8(range.past),
+            Field::U8(range.duration),
+        ],
     )
 }
 
-fn associate_line(request: AssociateRequest) -> Line
-    ensures { result ≡ associate_line request }
+fn print_associate(out: &mut [u8], at: usize, request: AssociateRequest) -> usize
+    requires { at ≤ 16000 }
+    ensures { WroteLine out.old at out.new result (associate_line request) }
 {
     let c = request.capabilities;
-    let numbers = [
-        word::ASSOCIATE,
-        from_u8(request.channel),
-        from_u16(request.pan_id.0),
-        from_u16(request.address.0),
-        flag(c.full_function_device),
-        flag(c.mains_power),
-        flag(c.idle_receive),
-        flag(c.frame_protection),
-        flag(c.allocate_address),
-        0,
-        0,
-        0,
-        0,
-        0,
-        0,
-        0,
-        0,
-        0,
-        0,
-        0,
-    ];
-    Line {
-        kind: kind::ASSOCIATE,
-        count: 20,
-        dash: false,
-        numbers,
-    }
+    print_line(
+        out,
+        at,
+        &[
+            Field::Word(Word::Associate),
+            Field::U8(request.channel),
+            Field::Short(request.pan_id.0),
+            Field::Short(request.address.0),
+            Field::Flag(c.full_function_device),
+            Field::Flag(c.mains_power),
+            Field::Flag(c.idle_receive),
+            Field::Flag(c.frame_protection),
+            Field::Flag(c.allocate_address),
+        ],
+    )
 }
 
-fn data_line(pan_id: PanId, address: ShortAddress, h: DataHeader) -> Line
-    ensures { result ≡ data_line pan_id address h }
-{
-    let numbers = [
-        word::TRANSMIT,
-        from_u16(pan_id.0),
-        from_u16(address.0),
-        word::DATA_FRAME,
-        from_u16(h.destination.0),
-        from_u16(h.source.0),
-        from_u8(h.sequence_number),
-        flag(h.secure),
-        0,
-        0,
-        0,
-        0,
-        0,
-        0,
-        0,
-        0,
-        0,
-        0,
-        0,
-        0,
-    ];
-    Line {
-        kind: kind::SENT_DATA,
-        count: 20,
-        dash: false,
-        numbers,
-    }
-}
-
-fn is_none(ieee: OptionalIeee) -> bool
-    ensures { result ≡ is_none ieee }
-{
-    match ieee {
-        OptionalIeee::NoIeee => return true,
-        OptionalIeee::Ieee(_) => return false,
-    }
-}
-
-fn ieee_number(ieee: OptionalIeee) -> u64
-    ensures { result ≡ ieee_number ieee }
-{
-    match ieee {
-        OptionalIeee::NoIeee => return 0,
-        OptionalIeee::Ieee(a) => return a.0,
-    }
-}
-
-// A command frame: its word, its header, and at most two numbers behind it.
-fn command_line(
-    kind: u8,
+fn print_data(
+    out: &mut [u8],
+    at: usize,
     pan_id: PanId,
     address: ShortAddress,
-    w: u64,
-    h: CommandHeader,
-    first: u64,
-    second: u64,
-) -> Line
-    ensures { result ≡ command_line kind pan_id address w h (first ∷ second ∷ []) }
+    h: DataHeader,
+) -> usize
+    requires { at ≤ 16000 }
+    ensures { WroteLine out.old at out.new result (data_line pan_id address h) }
 {
-    let ieee = h.destination_ieee;
-    let dash = is_none(ieee);
-    let numbers = [
-        word::TRANSMIT,
-        from_u16(pan_id.0),
-        from_u16(address.0),
-        w,
-        from_u16(h.destination.0),
-        ieee_number(ieee),
-        from_u16(h.source.0),
-        h.source_ieee.0,
-        from_u8(h.sequence_number),
-        flag(h.secure),
-        first,
-        second,
-        0,
-        0,
-        0,
-        0,
-        0,
-        0,
-        0,
-        0,
-    ];
-    Line {
-        kind,
-        count: 20,
-        dash,
-        numbers,
-    }
+    print_line(
+        out,
+        at,
+        &[
+            Field::Word(Word::Transmit),
+            Field::Short(pan_id.0),
+            Field::Short(address.0),
+            Field::Word(Word::DataFrame),
+            Field::Short(h.destination.0),
+            Field::Short(h.source.0),
+            Field::U8(h.sequence_number),
+            Field::Flag(h.secure),
+        ],
+    )
 }
 
-fn command_frame_line(
+// A command frame: its word, its header, and two fields that it carries.
+fn command_fields(
+    pan_id: PanId,
+    address: ShortAddress,
+    h: CommandHeader,
+    word: Word,
+    first: Field,
+    second: Field,
+) -> [Field; 12]
+    ensures { result ≡ command_line pan_id address h word (first ∷ second ∷ []) }
+{
+    [
+        Field::Word(Word::Transmit),
+        Field::Short(pan_id.0),
+        Field::Short(address.0),
+        Field::Word(word),
+        Field::Short(h.destination.0),
+        Field::OrDash(h.destination_ieee.map(|ieee| ieee.0)),
+        Field::Short(h.source.0),
+        Field::Long(h.source_ieee.0),
+        Field::U8(h.sequence_number),
+        Field::Flag(h.secure),
+        first,
+        second,
+    ]
+}
+
+// A command frame that carries one field.
+fn print_request_frame(
+    out: &mut [u8],
+    at: usize,
+    pan_id: PanId,
+    address: ShortAddress,
+    h: CommandHeader,
+    word: Word,
+    carried: u8,
+) -> usize
+    requires { at ≤ 16000 }
+    ensures { WroteLine out.old at out.new result (command_line pan_id address h word (Field.U8 carried ∷ [])) }
+{
+    let fields = command_fields(pan_id, address, h, word, Field::U8(carried), Field::U8(0));
+    print_line(out, at, &fields[..11])
+}
+
+fn print_command_frame(
+    out: &mut [u8],
+    at: usize,
     pan_id: PanId,
     address: ShortAddress,
     h: CommandHeader,
     command: SentCommand,
-) -> Line
-    ensures { result ≡ command_frame_line pan_id address h command }
+) -> usize
+    requires { at ≤ 16000 }
+    ensures { WroteLine out.old at out.new result (command_frame_line pan_id address h command) }
 {
     match command {
         SentCommand::RejoinRequest(c) => {
-            return command_line(
-                kind::SENT_REQUEST,
-                pan_id,
-                address,
-                word::REJOIN_REQUEST,
-                h,
-                from_u8(c.0),
-                0,
-            );
+            print_request_frame(out, at, pan_id, address, h, Word::RejoinRequest, c.0)
         }
         SentCommand::TimeoutRequest(index) => {
-            return command_line(
-                kind::SENT_REQUEST,
-                pan_id,
-                address,
-                word::TIMEOUT_REQUEST,
-                h,
-                from_u8(index),
-                0,
-            );
+            print_request_frame(out, at, pan_id, address, h, Word::TimeoutRequest, index)
         }
         SentCommand::Leave(options) => {
-            return command_line(
-                kind::SENT_LEAVE,
-                pan_id,
-                address,
-                word::LEAVE,
-                h,
-                flag(options.rejoin),
-                flag(options.remove_children),
-            );
+            let rejoin = Field::Flag(options.rejoin);
+            let children = Field::Flag(options.remove_children);
+            let fields = command_fields(pan_id, address, h, Word::Leave, rejoin, children);
+            print_line(out, at, &fields)
         }
     }
 }
 
-fn transmit_line(pan_id: PanId, address: ShortAddress, frame: SentFrame) -> Line
-    ensures { result ≡ transmit_line pan_id address frame }
+#[tactic(auto, unfolding(crate::specs::Lines::transmit_line))]
+fn print_transmit(
+    out: &mut [u8],
+    at: usize,
+    pan_id: PanId,
+    address: ShortAddress,
+    frame: SentFrame,
+) -> usize
+    requires { at ≤ 16000 }
+    ensures { WroteLine out.old at out.new result (transmit_line pan_id address frame) }
 {
     match frame {
-        SentFrame::DataFrame(h) => return data_line(pan_id, address, h),
+        SentFrame::DataFrame(h) => print_data(out, at, pan_id, address, h),
         SentFrame::CommandFrame(h, command) => {
-            return command_frame_line(pan_id, address, h, command);
+            print_command_frame(out, at, pan_id, address, h, command)
         }
     }
 }
 
-fn poll_line(pan_id: PanId, address: ShortAddress) -> Line
-    ensures { result ≡ poll_line pan_id address }
+fn print_poll(out: &mut [u8], at: usize, pan_id: PanId, address: ShortAddress) -> usize
+    requires { at ≤ 16000 }
+    ensures { WroteLine out.old at out.new result (poll_line pan_id address) }
 {
-    short_line(
-        kind::POLL,
-        false,
-        word::POLL,
-        from_u16(pan_id.0),
-        from_u16(address.0),
-        0,
-        0,
+    print_line(
+        out,
+        at,
+        &[
+            Field::Word(Word::Poll),
+            Field::Short(pan_id.0),
+            Field::Short(address.0),
+        ],
     )
 }
 
-fn request_line(request: RadioRequest) -> Line
-    ensures { result ≡ request_line request }
+#[tactic(auto, unfolding(crate::specs::Lines::request_line))]
+fn print_request(out: &mut [u8], at: usize, request: RadioRequest) -> usize
+    requires { at ≤ 16000 }
+    ensures { WroteLine out.old at out.new result (request_line request) }
 {
     match request {
-        RadioRequest::Scan(range) => return scan_line(range),
-        RadioRequest::Associate(asked) => return associate_line(asked),
-        RadioRequest::Transmit(t) => {
-            let frame = t.frame;
-            return transmit_line(t.pan_id, t.address, frame);
-        }
-        RadioRequest::Poll(pan_id, address) => return poll_line(pan_id, address),
-        RadioRequest::Receive => return word_line(word::RECEIVE),
+        RadioRequest::Scan(range) => print_scan(out, at, range),
+        RadioRequest::Associate(asked) => print_associate(out, at, asked),
+        RadioRequest::Transmit(t) => print_transmit(out, at, t.pan_id, t.address, t.frame),
+        RadioRequest::Poll(pan_id, address) => print_poll(out, at, pan_id, address),
+        RadioRequest::Receive => print_word(out, at, Word::Receive),
     }
 }
 
-fn status_word(s: NlmeJoinStatus) -> u64
-    ensures { result ≡ status_word s }
+fn status_word(status: NlmeJoinStatus) -> Word
+    ensures { result ≡ status_word status }
 {
-    match s {
-        NlmeJoinStatus::Success => return word::SUCCESS,
-        NlmeJoinStatus::InvalidRequest => return word::INVALID_REQUEST,
-        NlmeJoinStatus::NotPermitted => return word::NOT_PERMITTED,
-        NlmeJoinStatus::NoNetworks => return word::NO_NETWORKS,
-        NlmeJoinStatus::PanAtCapacity => return word::PAN_AT_CAPACITY,
-        NlmeJoinStatus::PanAccessDenied => return word::PAN_ACCESS_DENIED,
-        NlmeJoinStatus::MacError => return word::MAC_ERROR,
+    match status {
+        NlmeJoinStatus::Success => Word::Success,
+        NlmeJoinStatus::InvalidRequest => Word::InvalidRequest,
+        NlmeJoinStatus::NotPermitted => Word::NotPermitted,
+        NlmeJoinStatus::NoNetworks => Word::NoNetworks,
+        NlmeJoinStatus::PanAtCapacity => Word::PanAtCapacity,
+        NlmeJoinStatus::PanAccessDenied => Word::PanAccessDenied,
+        NlmeJoinStatus::MacError => Word::MacError,
     }
 }
 
-fn send_word(a: SendAnswer) -> u64
+fn send_word(a: SendAnswer) -> Word
     ensures { result ≡ send_word a }
 {
     match a {
-        SendAnswer::SendOk => return word::OK,
-        SendAnswer::SendNotJoined => return word::NOT_JOINED,
-        SendAnswer::SendMacError => return word::MAC_ERROR,
-        SendAnswer::SendParentLinkFailure => return word::PARENT_LINK_FAILURE,
+        SendAnswer::SendOk => Word::Ok,
+        SendAnswer::SendNotJoined => Word::NotJoined,
+        SendAnswer::SendMacError => Word::MacError,
+        SendAnswer::SendParentLinkFailure => Word::ParentLinkFailure,
     }
 }
 
-fn poll_word(a: PollAnswer) -> u64
+fn poll_word(a: PollAnswer) -> Word
     ensures { result ≡ poll_word a }
 {
     match a {
-        PollAnswer::PollData => return word::POLLED_DATA,
-        PollAnswer::PollNothing => return word::POLLED_NOTHING,
-        PollAnswer::PollNotJoined => return word::NOT_JOINED,
-        PollAnswer::PollMacError => return word::MAC_ERROR,
-        PollAnswer::PollUndecodable => return word::UNDECODABLE,
+        PollAnswer::PollData => Word::PolledData,
+        PollAnswer::PollNothing => Word::PolledNothing,
+        PollAnswer::PollNotJoined => Word::NotJoined,
+        PollAnswer::PollMacError => Word::MacError,
+        PollAnswer::PollUndecodable => Word::Undecodable,
     }
 }
 
-fn negotiation_word(a: NegotiationAnswer) -> u64
-    ensures { result ≡ negotiation_word a }
+fn negotiation_field(a: NegotiationAnswer) -> Field
+    ensures { result ≡ negotiation_field a }
 {
     match a {
-        NegotiationAnswer::Negotiated => return word::DIGIT_ONE,
-        NegotiationAnswer::NotNegotiated => return word::DIGIT_ZERO,
-        NegotiationAnswer::NegotiationNotJoined => return word::NOT_JOINED,
-        NegotiationAnswer::NegotiationMacError => return word::MAC_ERROR,
+        NegotiationAnswer::Negotiated => Field::U8(1),
+        NegotiationAnswer::NotNegotiated => Field::U8(0),
+        NegotiationAnswer::NegotiationNotJoined => Field::Word(Word::NotJoined),
+        NegotiationAnswer::NegotiationMacError => Field::Word(Word::MacError),
     }
 }
 
-fn keepalive_word(a: KeepaliveAnswer) -> u64
+fn keepalive_word(a: KeepaliveAnswer) -> Word
     ensures { result ≡ keepalive_word a }
 {
     match a {
-        KeepaliveAnswer::KeepaliveOk => return word::OK,
-        KeepaliveAnswer::KeepaliveParentLinkFailure => return word::PARENT_LINK_FAILURE,
+        KeepaliveAnswer::KeepaliveOk => Word::Ok,
+        KeepaliveAnswer::KeepaliveParentLinkFailure => Word::ParentLinkFailure,
     }
 }
 
-fn confirm_line(c: NlmeJoinConfirm) -> Line
-    ensures { result ≡ confirm_line c }
+fn print_confirm(out: &mut [u8], at: usize, c: NlmeJoinConfirm) -> usize
+    requires { at ≤ 16000 }
+    ensures { WroteLine out.old at out.new result (confirm_line c) }
 {
-    let status = c.status;
-    let w = status_word(status);
-    let address = from_u16(c.network_address.0);
-    let channel = from_u8(c.channel);
-    short_line(
-        kind::CONFIRM,
-        false,
-        word::CONFIRM,
-        w,
-        address,
-        c.extended_pan_id.0,
-        channel,
+    print_line(
+        out,
+        at,
+        &[
+            Field::Word(Word::Confirm),
+            Field::Word(status_word(c.status)),
+            Field::Short(c.network_address.0),
+            Field::Long(c.extended_pan_id.0),
+            Field::U8(c.channel),
+        ],
     )
 }
 
+// An answer's word, and what is answered.
+fn print_answer(out: &mut [u8], at: usize, word: Word, answer: Field) -> usize
+    requires { at ≤ 16000 }
+    ensures { WroteLine out.old at out.new result (Field.Word word ∷ answer ∷ []) }
+{
+    print_line(out, at, &[Field::Word(word), answer])
+}
+
+// What was taken, or that the slot was empty.
+fn print_taken<T: Printed>(out: &mut [u8], at: usize, slot: Option<T>) -> usize
+    requires { at ≤ 16000 }
+    ensures { WroteLine out.old at out.new result (taken_line T.line slot) }
+{
+    match slot {
+        Some(x) => x.print(out, at),
+        None => print_word(out, at, Word::Nothing),
+    }
+}
+
 // The request, confirm, answer or refusal of a call, with the number of networks that a discovery found.
-fn step_line(step: Step, discovered: u8) -> Line
-    ensures { result ≡ step_line step discovered }
+#[tactic(auto, unfolding(crate::specs::Lines::step_line))]
+fn print_step(out: &mut [u8], at: usize, step: Step, discovered: u8) -> usize
+    requires { at ≤ 16000 }
+    ensures { WroteSome out.old at out.new result (step_line step discovered) }
 {
     match step {
-        Step::Refused(k) => return number_line(word::REFUSED, k),
-        Step::Ask(request) => return request_line(request),
-        Step::Discovered => return number_line(word::DISCOVERED, discovered),
-        Step::DiscoveryFailed => return word_line(word::DISCOVERY_FAILED),
-        Step::Joined(confirm) => return confirm_line(confirm),
-        Step::Sent(a) => return field_line(kind::ANSWER, word::SEND_ANSWER, send_word(a)),
-        Step::Polled(a) => return field_line(kind::ANSWER, word::POLL_ANSWER, poll_word(a)),
-        Step::NegotiationOver(a) => return field_line(
-            kind::ANSWER,
-            word::NEGOTIATED,
-            negotiation_word(a),
-        ),
-        Step::KeepaliveOver(a) => return field_line(
-            kind::ANSWER,
-            word::KEEPALIVE_ANSWER,
-            keepalive_word(a),
-        ),
-        Step::Expired(expired) => return field_line(kind::EXPIRED, word::EXPIRED, flag(expired)),
-        Step::LeaveTaken(slot) => return leave_line(word_line(word::NOTHING), slot),
-        Step::StatusTaken(slot) => return status_line(word_line(word::NOTHING), slot),
-        Step::PageWritten => return no_line(),
-        Step::Done => return word_line(word::DONE),
+        Step::Refused(refusal) => print_refusal(out, at, refusal),
+        Step::Ask(request) => print_request(out, at, request),
+        Step::Discovered => print_answer(out, at, Word::Discovered, Field::U8(discovered)),
+        Step::DiscoveryFailed => print_word(out, at, Word::DiscoveryFailed),
+        Step::Joined(confirm) => print_confirm(out, at, confirm),
+        Step::Sent(a) => print_answer(out, at, Word::SendAnswer, Field::Word(send_word(a))),
+        Step::Polled(a) => print_answer(out, at, Word::PollAnswer, Field::Word(poll_word(a))),
+        Step::NegotiationOver(a) => print_answer(out, at, Word::Negotiated, negotiation_field(a)),
+        Step::KeepaliveOver(a) => {
+            print_answer(
+                out,
+                at,
+                Word::KeepaliveAnswer,
+                Field::Word(keepalive_word(a)),
+            )
+        }
+        Step::Expired(expired) => print_answer(out, at, Word::Expired, Field::Flag(expired)),
+        Step::LeaveTaken(slot) => print_taken(out, at, slot),
+        Step::StatusTaken(slot) => print_taken(out, at, slot),
+        Step::PageWritten => 0,
+        Step::Done => print_word(out, at, Word::Done),
     }
 }
 
-fn descriptor_line(d: NetworkDescriptor) -> Line
-    ensures { result ≡ descriptor_line d }
-{
-    let numbers = [
-        word::D,
-        d.extended_pan_id.0,
-        from_u16(d.pan_id.0),
-        from_u8(d.update_id),
-        from_u8(d.logical_channel),
-        from_u8(d.stack_profile),
-        from_u8(d.zigbee_version),
-        from_u8(d.beacon_order),
-        from_u8(d.superframe_order),
-        flag(d.permit_joining),
-        flag(d.router_capacity),
-        flag(d.end_device_capacity),
-        0,
-        0,
-        0,
-        0,
-        0,
-        0,
-        0,
-        0,
-    ];
-    Line {
-        kind: kind::NETWORK,
-        count: 20,
-        dash: false,
-        numbers,
+impl Printed for NetworkDescriptor {
+    ghost line = { descriptor_line };
+
+    fn print(self, out: &mut [u8], at: usize) -> usize {
+        print_line(
+            out,
+            at,
+            &[
+                Field::Word(Word::D),
+                Field::Long(self.extended_pan_id.0),
+                Field::Short(self.pan_id.0),
+                Field::U8(self.update_id),
+                Field::U8(self.logical_channel),
+                Field::U8(self.stack_profile),
+                Field::U8(self.zigbee_version),
+                Field::U8(self.beacon_order),
+                Field::U8(self.superframe_order),
+                Field::Flag(self.permit_joining),
+                Field::Flag(self.router_capacity),
+                Field::Flag(self.end_device_capacity),
+            ],
+        )
     }
 }
 
-// How many candidates there are: 16 where the count says more.
-fn in_use(list: CandidateList) -> u8
-    ensures { result ≡ length (items_of list) }
+// How many networks a discovery tells of.
+fn network_count(networks: &Option<NlmeNetworkDiscoveryConfirm>) -> u8
+    ensures { result ≡ network_count networks.now }
 {
-    let count = list.count;
-    if count <= MAX_NEIGBOUR_TABLE {
-        count
-    } else {
-        MAX_NEIGBOUR_TABLE
+    match networks {
+        None => 0,
+        Some(confirm) => confirm.count,
     }
+}
+
+// The networks that it found.
+fn networks_of(networks: &Option<NlmeNetworkDiscoveryConfirm>) -> &[NetworkDescriptor]
+    ensures value { result.now ≡ networks_of networks.now }
+    ensures few { length result.now ≤ 27 }
+{
+    match networks {
+        None => &[],
+        Some(confirm) => { lists::in_use(&confirm.network_descriptor, confirm.count as usize) }
+    }
+}
+
+// An answer: its reset note, its note, its step, and the networks that were found.
+fn print_told(out: &mut [u8], told: Answered) -> usize
+    ensures value { WroteLines out.old 0 out.new result (told_lines told) }
+    ensures short { result ≤ 16000 }
+{
+    let reset = print_reset(out, told.reset);
+    let note = print_some(out, reset, told.note);
+    let notes = reset + note;
+    let step = print_step(out, notes, told.step, network_count(&told.networks));
+    let all = notes + step;
+    all + print_each(out, all, networks_of(&told.networks))
 }
 
 // The candidates' indexes, as many fields as there are.
-fn candidates_line(list: CandidateList) -> Line
-    ensures { result ≡ candidates_line (items_of list) }
+fn print_candidates(out: &mut [u8], list: CandidateList) -> usize
+    ensures { WroteLine out.old 0 out.new result (candidates_line (items_of list)) }
 {
-    let used = in_use(list);
-    let mut numbers = [0; 20];
-    numbers[0] = word::CANDIDATES;
-    let mut i: u8 = 0;
-    while i < used {
-        let at = i as usize;
-        numbers[at + 1] = from_u8(list.indexes[at]);
-        i += 1;
+    let used = lists::in_use(&list.indexes, list.count as usize);
+    let mut fields = [Field::Word(Word::Candidates); 17];
+    for (i, index) in used.iter().enumerate() {
+        fields[i + 1] = Field::U8(*index);
     }
-    Line {
-        kind: kind::CANDIDATES,
-        count: used + 1,
-        dash: false,
-        numbers,
-    }
+    print_line(out, 0, &fields[..used.len() + 1])
 }
 
 // The answer to a choice of candidates.
-fn choice_line(refusal: u8, list: CandidateList) -> Line
-    ensures { result ≡ choice_line refusal list }
+fn print_choice(out: &mut [u8], choice: Result<CandidateList, Refusal>) -> usize
+    ensures { WroteLine out.old 0 out.new result (choice_line choice) }
 {
-    if refusal == 0 {
-        return candidates_line(list);
+    match choice {
+        Ok(list) => print_candidates(out, list),
+        Err(refusal) => print_refusal(out, 0, refusal),
     }
-    number_line(word::REFUSED, refusal)
 }
 
 // The line that says that a line is not of the format, with its number.
-fn bad_line(number: u32) -> Line
-    ensures { result ≡ bad_line number }
+fn print_bad(out: &mut [u8], number: u32) -> usize
+    ensures { WroteLine out.old 0 out.new result (bad_line number) }
 {
-    field_line(kind::NUMBER, word::BAD, from_u32(number))
+    print_line(out, 0, &[Field::Word(Word::Bad), Field::U32(number)])
 }
 
-// What is printed of a turn, line by line.
-
-// How many networks are told of: 27 where the count says more.
-fn network_count(networks: NlmeNetworkDiscoveryConfirm) -> u8
-    ensures { (result ≡ length (networks_of networks)) × (result ≤ 27) }
+// What follows the entries of a state: the failure pairs, the slots that are full, and the end.
+fn print_nlme(out: &mut [u8], at: usize, nlme: Nlme) -> usize
+    requires { at ≤ 7200 }
+    ensures { WroteLines out.old at out.new result (nlme_lines nlme) }
 {
-    let count = networks.count;
-    if count <= MAX_NETWORK_DESCRIPTORS {
-        count
-    } else {
-        MAX_NETWORK_DESCRIPTORS
-    }
+    let failures = nlme.transmit_failures;
+    let pairs = print_each(
+        out,
+        at,
+        lists::in_use(&failures.pairs, failures.count as usize),
+    );
+    pairs + print_slots(out, at + pairs, nlme.signals)
 }
 
-// The line of network i.
-fn network_line(networks: NlmeNetworkDiscoveryConfirm, i: u8) -> Line
-    requires { i < length (networks_of networks) }
-    ensures { result ≡ get_or (map descriptor_line (networks_of networks)) i no_line }
+// A state.
+fn print_state(out: &mut [u8], state: State) -> usize
+    ensures value { WroteLines out.old 0 out.new result (state_lines state) }
+    ensures short { result ≤ 16000 }
 {
-    let k = i as usize;
-    let d = networks.network_descriptor[k];
-    descriptor_line(d)
-}
-
-// Line i of an answer: its reset note, its note, its step, and the networks that were found.
-fn told_line(
-    reset: bool,
-    note: Note,
-    step: Step,
-    networks: NlmeNetworkDiscoveryConfirm,
-    i: u8,
-) -> Line
-    requires { i < length (told_lines reset note step networks) }
-    ensures { result ≡ get_or (told_lines reset note step networks) i no_line }
-{
-    if i == 0 {
-        return reset_line(reset);
-    }
-    if i == 1 {
-        return note_line(note);
-    }
-    if i == 2 {
-        return step_line(step, networks.count);
-    }
-    network_line(networks, i - 3)
-}
-
-// The line of entry i.
-fn table_line(table: NeighborTable, i: u8) -> Line
-    requires { i < length (entries_of table) }
-    ensures { result ≡ get_or (map entry_line (entries_of table)) i no_line }
-{
-    let k = i as usize;
-    let e = table.entries[k];
-    entry_line(e)
-}
-
-// How many pairs are in use: 16 where the count says more.
-fn failure_count(failures: TransmitFailures) -> u8
-    ensures { (result ≡ length (pairs_of failures)) × (result ≤ 16) }
-{
-    let count = failures.count;
-    if count <= MAX_NEIGBOUR_TABLE {
-        count
-    } else {
-        MAX_NEIGBOUR_TABLE
-    }
-}
-
-// The line of pair i.
-fn pair_line(failures: TransmitFailures, i: u8) -> Line
-    requires { i < length (pairs_of failures) }
-    ensures { result ≡ get_or (map failure_line (pairs_of failures)) i no_line }
-{
-    let k = i as usize;
-    let p = failures.pairs[k];
-    failure_line(p)
-}
-
-// Line i of what follows the entries of a state.
-fn nlme_line(nlme: Nlme, i: u8) -> Line
-    requires { i < length (nlme_lines nlme) }
-    ensures { result ≡ get_or (nlme_lines nlme) i no_line }
-{
-    let failures = failure_count(nlme.transmit_failures);
-    if i < failures {
-        return pair_line(nlme.transmit_failures, i);
-    }
-    slot_line(nlme.signals, i - failures)
-}
-
-// Line i of a state.
-fn state_line(state: State, i: u8) -> Line
-    requires { i < length (state_lines state) }
-    ensures { result ≡ get_or (state_lines state) i no_line }
-{
-    if i == 0 {
-        return node_line(state.control.nlme);
-    }
-    let a = i - 1;
-    let entries = state.table.len();
-    if a < entries {
-        return table_line(state.table, a);
-    }
-    nlme_line(state.control.nlme, a - entries)
-}
-
-// How many lines a state has.
-fn state_count(state: State) -> u8
-    ensures { (result ≡ length (state_lines state)) × (result ≤ 38) }
-{
-    let failures = failure_count(state.control.nlme.transmit_failures);
-    6 + state.table.len() + failures
-}
-
-// How many lines are printed of a turn, those of kind 255 among them.
-fn said_count(number: u32, turn: Turn) -> u8
-    ensures { (result ≡ length (said_lines number turn)) × (result ≤ 38) }
-{
-    let said = turn.said;
-    match said {
-        Said::Bad => return 1,
-        Said::Nothing => return 0,
-        Said::Told(_, _, _) => return 3 + network_count(turn.networks),
-        Said::Chosen(_) => return 1,
-        Said::Shown => return state_count(turn.session.state),
-        Said::Paged(_) => return 0,
-    }
-}
-
-// Line i of what is printed of a turn, which line `number` of the trace is.
-fn said_line(number: u32, turn: Turn, i: u8) -> Line
-    requires { i < length (said_lines number turn) }
-    ensures { result ≡ get_or (said_lines number turn) i no_line }
-{
-    let said = turn.said;
-    match said {
-        Said::Bad => return bad_line(number),
-        Said::Nothing => return no_line(),
-        Said::Told(reset, note, step) => return told_line(reset, note, step, turn.networks, i),
-        Said::Chosen(refusal) => return choice_line(refusal, turn.list),
-        Said::Shown => return state_line(turn.session.state, i),
-        Said::Paged(_) => return no_line(),
-    }
-}
-
-// Writes a line at a place; nothing where it is no line.
-fn write_some(out: &mut [u8], at: usize, line: Line) -> usize
-    requires { at ≤ 16000 }
-    ensures { (result ≡ length (some_text line)) × (out.new ≡ sets out.old at (some_text line)) }
-{
-    if line.kind == kind::NONE {
-        return 0;
-    }
-    trace_lines::write_line(out, at as u16, line)
-}
-
-// Writes the lines of a turn.
-fn print_lines(out: &mut [u8], number: u32, turn: Turn) -> usize
-    ensures { (result ≡ length (flat_map some_text (said_lines number turn))) × (result ≤ 16000) × (out.new ≡ sets out.old 0 (flat_map some_text (said_lines number turn))) }
-{
-    let count = said_count(number, turn);
-    let mut written: usize = 0;
-    let mut i: u8 = 0;
-    while i < count {
-        written += write_some(out, written, said_line(number, turn, i));
-        i += 1;
-    }
-    written
+    let nlme = state.control.nlme;
+    let node = print_node(out, nlme);
+    let entries = print_each(out, node, state.table.used());
+    let all = node + entries;
+    all + print_nlme(out, all, nlme)
 }
 
 // The bytes that are lent for a page: no line of the format asks for more than 1,024.
 fn lent_bytes(bytes: u16) -> usize
     ensures { result ≡ min bytes 1024 }
 {
-    if bytes < 1024 {
-        return bytes as usize;
-    }
-    1024
+    usize::from(bytes).min(1024)
 }
 
 // Lends the start of a buffer for a page, and writes the refusal there where the call is turned down.
 fn print_page(out: &mut [u8], state: State, bytes: u16) -> usize
     requires { 1024 ≤ length out.old }
-    ensures { (result ≡ length (page_text bytes state)) × (result ≤ 16000) × (out.new ≡ sets out.old 0 (page_text bytes state)) }
+    ensures value { Wrote out.old 0 out.new result (page_text bytes state) }
+    ensures short { result ≤ 16000 }
 {
     let lent = lent_bytes(bytes);
     let answer = state.write_neighbor_page(&mut out[..lent]);
     let step = answer.step;
     let Step::PageWritten = step else {
-        return write_some(out, 0, step_line(step, 0));
+        return print_step(out, 0, step, 0);
     };
     neighbor_page::PAGE_BYTES
 }
 
-// Writes what is printed of a turn.
+// What is printed of a turn, which line `number` of the trace is.
 fn print(out: &mut [u8], number: u32, turn: Turn) -> usize
     requires { 1024 ≤ length out.old }
-    ensures { (result ≡ length (text_of number turn)) × (result ≤ 16000) × (out.new ≡ sets out.old 0 (text_of number turn)) }
+    ensures value { Wrote out.old 0 out.new result (text_of number turn) }
+    ensures short { result ≤ 16000 }
 {
-    let said = turn.said;
-    let Said::Paged(bytes) = said else {
-        return print_lines(out, number, turn);
-    };
-    print_page(out, turn.session.state, bytes)
+    match turn.said {
+        Said::Bad => print_bad(out, number),
+        Said::Nothing => 0,
+        Said::Told(told) => print_told(out, told),
+        Said::Chosen(choice) => print_choice(out, choice),
+        Said::Shown => print_state(out, turn.session.state),
+        Said::Paged(bytes) => print_page(out, turn.session.state, bytes),
+    }
 }
 
 // A line answered.
@@ -1045,31 +814,22 @@ fn print(out: &mut [u8], number: u32, turn: Turn) -> usize
 fn is_bad(said: Said) -> bool
     ensures { result ≡ is_bad said }
 {
-    match said {
-        Said::Bad => return true,
-        Said::Nothing => return false,
-        Said::Told(_, _, _) => return false,
-        Said::Chosen(_) => return false,
-        Said::Shown => return false,
-        Said::Paged(_) => return false,
-    }
+    matches!(said, Said::Bad)
 }
 
 // The call that a line says, made.
+#[tactic(auto, unfolding(crate::specs::Trace::turn_of))]
 fn turn_of(session: Session, line: &[u8]) -> Turn
     ensures { result ≡ turn_of line.now session }
 {
-    session.take(trace_input::call_of(trace_lines::read_line(line)))
+    session.take(trace_lines::read_line(line).map(trace_input::call_of))
 }
 
 // Line numbers stop at the greatest.
 fn number_after(number: u32) -> u32
     ensures { result ≡ number_after number }
 {
-    if number < 0xffff_ffff {
-        return number + 1;
-    }
-    number
+    number.saturating_add(1)
 }
 
 impl Run {
@@ -1081,8 +841,7 @@ impl Run {
         let turn = turn_of(self.session, line);
         let length = print(out, number, turn);
         let session = turn.session;
-        let said = turn.said;
-        let good = !is_bad(said);
+        let good = !is_bad(turn.said);
         Run {
             session,
             number,

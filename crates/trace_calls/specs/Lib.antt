@@ -1,3 +1,2 @@
 -- The definitions of `trace_calls`.
 pub mod TraceCalls
-pub mod Private

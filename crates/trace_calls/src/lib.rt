@@ -1,31 +1,23 @@
 // A trace's lines, taken one by one: what stands between two of them, and what a line says of the node.
 #![tactic(auto)]
 
-ghost use Rattle.std.specs.Prelude.{◌≡◌, ◌-◌};
+ghost use Rattle.std.specs.Prelude.{◌≡◌};
 ghost use Rattle.nib.specs.Neighbors.{pushed};
 ghost use Rattle.node.specs.Looks.{with_table};
-ghost use Rattle.trace_calls.specs.TraceCalls.{no_node, own_part, idle, begun, with_pair, with_pairs, unheard, with_beacon, before, set_up, saying, nothing, told, with_networks, scan_after, chosen, kind_of, has_room, has_node, is_beacon, may_come, fits_at, taken};
-ghost use Rattle.trace_calls.specs.Private.{state_after, scan_so_far, answer, called};
+ghost use Rattle.trace_calls.specs.TraceCalls.{no_node, begun, with_pair, with_pairs, unheard, with_beacon, before, set_up, running, saying, nothing, told, scan_told, scan_after, chosen, made, has_room, has_node, may_come, fits, taken};
 
 use candidates::CandidateList;
-use candidates::tries::Candidates;
 use discovery::NlmeNetworkDiscoveryConfirm;
 use discovery::mlme::{
-    Address, MAX_PAN_DESCRIPTOR_SIZE, PanDescriptor, PanDescriptorList, StackProfile,
+    Address, MAX_PAN_DESCRIPTOR_SIZE, MacError, PanDescriptor, PanDescriptorList, StackProfile,
     SuperframeSpecification, ZigbeeBeacon,
 };
-use management::{
-    LeaveIndicationSlot, RejoinResponseSlot, ScanRange, Signals, StatusIndicationSlot,
-    TimeoutResponseSlot,
-};
 use nib::{
-    CapabilityInformation, ExtendedPanId, IeeeAddress, MAX_NEIGBOUR_TABLE, NeighborTable, Nib,
-    NwkNeighbor, PanId, ShortAddress,
+    CapabilityInformation, ExtendedPanId, IeeeAddress, MAX_NEIGBOUR_TABLE, Nib, NwkNeighbor, PanId,
+    ShortAddress,
 };
-use nlme::Nlme;
-use node::{Answer, ScanOutcome, State};
-use operation::{Control, Note, Operation, Phase, Step};
-use supervision::parent_timer::ParentTimer;
+use node::{Answer, State};
+use operation::{Note, Refusal, Step};
 use supervision::{TransmitFailure, TransmitFailures};
 use trace_input::{Call, NodeFields};
 
@@ -47,30 +39,41 @@ pub struct Session {
     pub scan: PanDescriptorList,
 }
 
-// What a line says: that it is not of the format; nothing; an answer, with its reset note; a choice of candidates, with its refusal, 0 for none;
-// the state; a page, by the length of the lent buffer.
+// What a node answers to a call.
+#[derive(Clone, Copy)]
+pub struct Answered {
+    // the reset note
+    pub reset: bool,
+    pub note: Option<Note>,
+    pub step: Step,
+    // the networks that a discovery found
+    pub networks: Option<NlmeNetworkDiscoveryConfirm>,
+}
+
+// What a line says.
 #[derive(Clone, Copy)]
 pub enum Said {
+    // it is not of the format
     Bad,
     Nothing,
-    Told(bool, Note, Step),
-    Chosen(u8),
+    Told(Answered),
+    Chosen(Result<CandidateList, Refusal>),
+    // the state
     Shown,
+    // a page, by the length of the lent buffer
     Paged(u16),
 }
 
 // The session after a line, and what the line says.
-// With it are the networks that a discovery found and the candidates that were chosen, none of them for any other line.
 #[derive(Clone, Copy)]
 pub struct Turn {
     pub session: Session,
     pub said: Said,
-    pub networks: NlmeNetworkDiscoveryConfirm,
-    pub list: CandidateList,
 }
 
 // A state that a `node` line begins.
 
+// A `node` line of zeros. `Nib::new` gives other values.
 fn no_node() -> NodeFields
     ensures { result ≡ no_node }
 {
@@ -95,116 +98,41 @@ fn no_node() -> NodeFields
     }
 }
 
-// The node's own part: no pairs, and every slot is empty.
-fn own_part(node: NodeFields) -> Nlme
-    ensures { result ≡ own_part node }
-{
-    let nib = node.nib;
-    let none = TransmitFailure {
-        address: ShortAddress(0),
-        count: 0,
-    };
-    let pairs = [none; MAX_NEIGBOUR_TABLE as usize];
-    Nlme {
-        nib,
-        nwk_seq: node.nwk_seq,
-        pending_timeout_request: node.pending_timeout_request,
-        parent_timer: ParentTimer {
-            remaining_ms: node.remaining_ms,
-        },
-        signals: Signals {
-            rejoin_response: RejoinResponseSlot::NoRejoinResponse,
-            timeout_response: TimeoutResponseSlot::NoTimeoutResponse,
-            leave_indication: LeaveIndicationSlot::NoLeaveIndication,
-            nwk_status_indication: StatusIndicationSlot::NoStatusIndication,
-        },
-        transmit_failures: TransmitFailures { pairs, count: 0 },
-    }
-}
-
-fn idle() -> Operation
-    ensures { result ≡ idle }
-{
-    Operation {
-        phase: Phase::Idle,
-        extended_pan_id: ExtendedPanId(0),
-        security_enabled: false,
-        scan: ScanRange {
-            first: 0,
-            past: 0,
-            duration: 0,
-        },
-        scan_requested: false,
-        channel: 0,
-        polls_left: 0,
-    }
-}
-
 // A node with no neighbours and no operation under way.
+#[tactic(auto, unfolding(crate::specs::TraceCalls::begun, node::specs::Beginning::new_state, nlme::specs::Nlme::new_nlme))]
 fn begun(node: NodeFields) -> State
     ensures { result ≡ begun node }
 {
-    let nlme = own_part(node);
-    let operation = idle();
-    let control = Control { nlme, operation };
-    let table = NeighborTable::new();
-    let list = CandidateList {
-        indexes: [0; MAX_NEIGBOUR_TABLE as usize],
-        count: 0,
-    };
-    let candidates = Candidates { list, taken: 0 };
-    State {
-        control,
-        table,
-        candidates,
-    }
+    let mut state = State::new(node.nib, node.nwk_seq);
+    state.control.nlme.pending_timeout_request = node.pending_timeout_request;
+    state.control.nlme.parent_timer.remaining_ms = node.remaining_ms;
+    state
 }
 
 // One pair more behind those in use; a full record stays.
-fn with_pair(failures: TransmitFailures, p: TransmitFailure) -> TransmitFailures
+fn with_pair(mut failures: TransmitFailures, p: TransmitFailure) -> TransmitFailures
     ensures { result ≡ with_pair p failures }
 {
-    let count = failures.count;
-    let mut out = failures;
-    if MAX_NEIGBOUR_TABLE <= count {
-        return out;
+    if failures.count < MAX_NEIGBOUR_TABLE {
+        failures.pairs[failures.count as usize] = p;
+        failures.count += 1;
     }
-    let at = count as usize;
-    out.pairs[at] = p;
-    out.count = count + 1;
-    out
+    failures
 }
 
-fn with_entry(state: State, e: NwkNeighbor) -> State
+fn with_entry(mut state: State, e: NwkNeighbor) -> State
     ensures { result ≡ with_table (pushed state.table e) state }
 {
-    let mut out = state;
-    out.table = state.table.push(e);
-    out
+    state.table = state.table.push(e);
+    state
 }
 
-fn with_failure(state: State, p: TransmitFailure) -> State
+fn with_failure(mut state: State, p: TransmitFailure) -> State
     ensures { result ≡ with_pairs (with_pair p state.control.nlme.transmit_failures) state }
 {
-    let mut nlme = state.control.nlme;
-    nlme.transmit_failures = with_pair(nlme.transmit_failures, p);
-    let mut control = state.control;
-    control.nlme = nlme;
-    let mut out = state;
-    out.control = control;
-    out
-}
-
-// The state after a line that sets it up.
-fn state_after(state: State, call: Call) -> State
-    ensures { result ≡ state_after call state }
-{
-    match call {
-        Call::Node(node) => return begun(node),
-        Call::Entry(e) => return with_entry(state, e),
-        Call::Failure(p) => return with_failure(state, p),
-        _ => return state,
-    }
+    let failures = with_pair(state.control.nlme.transmit_failures, p);
+    state.control.nlme.transmit_failures = failures;
+    state
 }
 
 // The beacons of a scan.
@@ -233,95 +161,15 @@ fn unheard(count: usize) -> PanDescriptorList
     PanDescriptorList { descriptors, count }
 }
 
-// The place of the next beacon: how many were heard.
-fn place(count: usize, missing: u32) -> usize
-    ensures { result ≡ count - missing }
-{
-    let to_come = missing as usize;
-    if count < to_come {
-        return 0;
-    }
-    count - to_come
-}
-
 // The next beacon is heard; the first 27 are kept.
-fn with_beacon(list: PanDescriptorList, missing: u32, d: PanDescriptor) -> PanDescriptorList
+fn with_beacon(mut list: PanDescriptorList, missing: u32, d: PanDescriptor) -> PanDescriptorList
     ensures { result ≡ with_beacon missing d list }
 {
-    let at = place(list.count, missing);
-    let mut out = list;
-    if MAX_PAN_DESCRIPTOR_SIZE <= at {
-        return out;
+    let heard = list.count.saturating_sub(missing as usize);
+    if heard < MAX_PAN_DESCRIPTOR_SIZE {
+        list.descriptors[heard] = d;
     }
-    out.descriptors[at] = d;
-    out
-}
-
-// One beacon less to come.
-fn one_less(missing: u32) -> u32
-    ensures { result ≡ missing - 1 }
-{
-    if missing == 0 {
-        return 0;
-    }
-    missing - 1
-}
-
-// How many beacons of a scan are still to come after a line, and its outcome as far as it was heard.
-#[derive(Clone, Copy)]
-struct ScanSoFar {
-    missing: u32,
-    outcome: ScanOutcome,
-}
-
-fn scan_so_far(list: PanDescriptorList, missing: u32, call: Call) -> ScanSoFar
-    ensures { result ≡ scan_so_far list missing call }
-{
-    match call {
-        Call::Scan(n) => return ScanSoFar {
-            missing: n,
-            outcome: ScanOutcome {
-                failed: false,
-                list: unheard(n as usize),
-            },
-        },
-        Call::Beacon(d) => return ScanSoFar {
-            missing: one_less(missing),
-            outcome: ScanOutcome {
-                failed: false,
-                list: with_beacon(list, missing, d),
-            },
-        },
-        _ => return ScanSoFar {
-            missing: 0,
-            outcome: ScanOutcome {
-                failed: true,
-                list: unheard(0),
-            },
-        },
-    }
-}
-
-// What the node answers to a call; lines that make none don't come here.
-fn answer(state: State, call: Call) -> Answer
-    ensures { result ≡ answer call state }
-{
-    match call {
-        Call::Discovery(range) => return state.start_discovery(range),
-        Call::Join(request) => return state.join(request),
-        Call::Send(destination, secure) => return state.send_data(destination, secure),
-        Call::Poll => return state.poll(),
-        Call::Receive => return state.receive(),
-        Call::Negotiate => return state.negotiate_end_device_timeout(),
-        Call::Keepalive => return state.send_timeout_request_keepalive(),
-        Call::Association(outcome) => return state.association_over(outcome),
-        Call::Transmission(sent) => return state.transmission_over(sent),
-        Call::Reception(outcome) => return state.reception_over(outcome),
-        Call::Tick(ms) => return state.tick_parent_timeout(ms),
-        Call::TakeLeave => return state.take_leave_indication(),
-        Call::Refresh => return state.refresh_parent_timeout(),
-        _ => return state.take_nwk_status_indication(),
-    }
+    list
 }
 
 // What a line leaves and says.
@@ -330,253 +178,190 @@ impl Session {
     pub fn new() -> Session
         ensures { result ≡ before }
     {
-        let state = begun(no_node());
-        let scan = unheard(0);
         Session {
-            state,
+            state: begun(no_node()),
             stage: Stage::NoNode,
             missing: 0,
-            scan,
+            scan: unheard(0),
         }
     }
-}
 
-// What a line says that tells of no networks and no candidates, with the session that it leaves.
-fn turn_saying(
-    state: State,
-    stage: Stage,
-    missing: u32,
-    scan: PanDescriptorList,
-    said: Said,
-) -> Turn
-    ensures { result ≡ saying said (record { state = state; stage = stage; missing = missing; scan = scan }) }
-{
-    let networks = discovery::no_networks();
-    let list = CandidateList::new();
-    Turn {
-        session: Session {
-            state,
-            stage,
-            missing,
-            scan,
-        },
-        said,
-        networks,
-        list,
+    fn saying(self, said: Said) -> Turn
+        ensures { result ≡ saying said self }
+    {
+        Turn {
+            session: self,
+            said,
+        }
     }
-}
 
-// A call's answer with the networks that it tells of, and the state that it leaves.
-fn told(scan: PanDescriptorList, answer: Answer, networks: NlmeNetworkDiscoveryConfirm) -> Turn
-    ensures { result ≡ with_networks networks (told answer scan) }
-{
-    let state = answer.state;
-    let note = answer.note;
-    let step = answer.step;
-    let list = CandidateList::new();
-    Turn {
-        session: Session {
+    // After a call, with the state that it leaves.
+    fn running(self, state: State) -> Session
+        ensures { result ≡ running state self.scan }
+    {
+        Session {
             state,
             stage: Stage::Running,
             missing: 0,
-            scan,
-        },
-        said: Said::Told(answer.reset, note, step),
-        networks,
-        list,
-    }
-}
-
-impl Session {
-    // `node`, `e` and `f`.
-    fn set_up(self, call: Call) -> Turn
-        ensures { result ≡ nothing (set_up (state_after call self.state) self) }
-    {
-        turn_saying(
-            state_after(self.state, call),
-            Stage::SettingUp,
-            0,
-            self.scan,
-            Said::Nothing,
-        )
-    }
-
-    // `scan`, `b` and `scanfail`: the outcome reaches the node with the last beacon.
-    fn scan_line(self, call: Call) -> Turn
-        ensures { result ≡ scan_after (scan_so_far self.scan self.missing call).missing (scan_so_far self.scan self.missing call).outcome self }
-    {
-        let so_far = scan_so_far(self.scan, self.missing, call);
-        if so_far.missing == 0 {
-            let scanned = self.state.scan_over(so_far.outcome);
-            return told(self.scan, scanned.answer, scanned.confirm);
+            ..self
         }
-        turn_saying(
-            self.state,
-            Stage::Running,
-            so_far.missing,
-            so_far.outcome.list,
-            Said::Nothing,
-        )
     }
 
+    // `node`, `e` and `f`, with the state that they leave.
+    fn set_up(self, state: State) -> Turn
+        ensures { result ≡ nothing (set_up state self) }
+    {
+        let session = Session {
+            state,
+            stage: Stage::SettingUp,
+            missing: 0,
+            ..self
+        };
+        session.saying(Said::Nothing)
+    }
+
+    // A call's answer, with the networks that a discovery found.
+    fn told(self, answer: Answer, networks: Option<NlmeNetworkDiscoveryConfirm>) -> Turn
+        ensures { result ≡ told answer networks self.scan }
+    {
+        let answered = Answered {
+            reset: answer.reset,
+            note: answer.note,
+            step: answer.step,
+            networks,
+        };
+        self.running(answer.state).saying(Said::Told(answered))
+    }
+
+    // The outcome of a scan reaches the node.
+    fn scan_told(self, outcome: Result<PanDescriptorList, MacError>) -> Turn
+        ensures { result ≡ scan_told outcome self }
+    {
+        let scanned = self.state.scan_over(outcome);
+        self.told(scanned.answer, scanned.confirm)
+    }
+
+    // After `scan` or `b`, with so many beacons still to come: the outcome reaches the node with the last of them.
+    fn scan_after(self, missing: u32, scan: PanDescriptorList) -> Turn
+        ensures { result ≡ scan_after missing scan self }
+    {
+        if missing == 0 {
+            return self.scan_told(Ok(scan));
+        }
+        let session = Session {
+            state: self.state,
+            stage: Stage::Running,
+            missing,
+            scan,
+        };
+        session.saying(Said::Nothing)
+    }
+
+    // The choice of candidates on the present table.
     fn chosen(self, network: ExtendedPanId, router: bool, permit: bool) -> Turn
         ensures { result ≡ chosen network.0 router permit self }
     {
         let choice = self.state.select_candidates(network, router, permit);
-        let state = self.state;
-        let scan = self.scan;
-        let networks = discovery::no_networks();
-        let list = choice.list;
-        Turn {
-            session: Session {
-                state,
-                stage: Stage::Running,
-                missing: 0,
-                scan,
-            },
-            said: Said::Chosen(choice.refusal),
-            networks,
-            list,
-        }
+        self.running(self.state).saying(Said::Chosen(choice))
     }
 
-    // Any other line.
-    fn called(self, call: Call) -> Turn
-        ensures { result ≡ called call self }
+    // The call that a line makes.
+    #[tactic(auto, unfolding(crate::specs::TraceCalls::made))]
+    fn make(self, call: Call) -> Turn
+        ensures { result ≡ made call self }
     {
+        let state = self.state;
         match call {
-            Call::Choose(network, router, permit) => return self.chosen(network, router, permit),
-            Call::PrintState => return turn_saying(
-                self.state,
-                Stage::Running,
-                0,
-                self.scan,
-                Said::Shown,
+            Call::Node(node) => self.set_up(begun(node)),
+            Call::Entry(e) => self.set_up(with_entry(state, e)),
+            Call::Failure(p) => self.set_up(with_failure(state, p)),
+            Call::Discovery(range) => self.told(state.start_discovery(range), None),
+            Call::Join(request) => self.told(state.join(request), None),
+            Call::Send(destination, secure) => self.told(
+                state.send_data(destination, secure),
+                None,
             ),
-            Call::Page(length) => return turn_saying(
-                self.state,
-                Stage::Running,
-                0,
-                self.scan,
-                Said::Paged(length),
+            Call::Poll => self.told(state.poll(), None),
+            Call::Receive => self.told(state.receive(), None),
+            Call::Negotiate => self.told(state.negotiate_end_device_timeout(), None),
+            Call::Keepalive => self.told(state.send_timeout_request_keepalive(), None),
+            Call::Scan(n) => self.scan_after(n, unheard(n as usize)),
+            Call::Beacon(d) => self.scan_after(
+                self.missing.saturating_sub(1),
+                with_beacon(self.scan, self.missing, d),
             ),
-            _ => return told(
-                self.scan,
-                answer(self.state, call),
-                discovery::no_networks(),
-            ),
+            Call::ScanFailed => self.scan_told(Err(MacError)),
+            Call::Association(outcome) => self.told(state.association_over(outcome), None),
+            Call::Transmission(sent) => self.told(state.transmission_over(sent), None),
+            Call::Reception(outcome) => self.told(state.reception_over(outcome), None),
+            Call::Tick(ms) => self.told(state.tick_parent_timeout(ms), None),
+            Call::TakeLeave => self.told(state.take_leave_indication(), None),
+            Call::TakeStatus => self.told(state.take_nwk_status_indication(), None),
+            Call::Refresh => self.told(state.refresh_parent_timeout(), None),
+            Call::Choose(network, router, permit) => self.chosen(network, router, permit),
+            Call::PrintState => self.running(state).saying(Said::Shown),
+            Call::Page(length) => self.running(state).saying(Said::Paged(length)),
         }
     }
 }
 
 // Which lines may come.
-
-// The kind of a line: none of the format; `node`; `e`; `f`; `scan` or `scanfail`; `b`; any other.
-#[derive(Clone, Copy)]
-enum Kind {
-    NoLine,
-    NodeLine,
-    EntryLine,
-    PairLine,
-    ScanLine,
-    BeaconLine,
-    CallLine,
-}
-
-fn kind_of(call: Call) -> Kind
-    ensures { result ≡ kind_of call }
-{
-    match call {
-        Call::Bad => return Kind::NoLine,
-        Call::Node(_) => return Kind::NodeLine,
-        Call::Entry(_) => return Kind::EntryLine,
-        Call::Failure(_) => return Kind::PairLine,
-        Call::Scan(_) => return Kind::ScanLine,
-        Call::ScanFailed => return Kind::ScanLine,
-        Call::Beacon(_) => return Kind::BeaconLine,
-        _ => return Kind::CallLine,
+impl Stage {
+    // Whether a line of the state may come, with so many of its kind before it.
+    fn has_room(self, count: u8) -> bool
+        ensures { result ≡ has_room self count }
+    {
+        match self {
+            Stage::SettingUp => count < MAX_NEIGBOUR_TABLE,
+            Stage::NoNode | Stage::Running => false,
+        }
     }
-}
 
-// Whether a line of the state may come, with so many of its kind before it.
-fn has_room(stage: Stage, count: u8) -> bool
-    ensures { result ≡ has_room stage count }
-{
-    match stage {
-        Stage::NoNode => return false,
-        Stage::SettingUp => return count < MAX_NEIGBOUR_TABLE,
-        Stage::Running => return false,
+    fn has_node(self) -> bool
+        ensures { result ≡ has_node self }
+    {
+        match self {
+            Stage::NoNode => false,
+            Stage::SettingUp | Stage::Running => true,
+        }
     }
-}
-
-fn has_node(stage: Stage) -> bool
-    ensures { result ≡ has_node stage }
-{
-    match stage {
-        Stage::NoNode => return false,
-        Stage::SettingUp => return true,
-        Stage::Running => return true,
-    }
-}
-
-fn is_beacon(kind: Kind) -> bool
-    ensures { result ≡ is_beacon kind }
-{
-    match kind {
-        Kind::NoLine => return false,
-        Kind::NodeLine => return false,
-        Kind::EntryLine => return false,
-        Kind::PairLine => return false,
-        Kind::ScanLine => return false,
-        Kind::BeaconLine => return true,
-        Kind::CallLine => return false,
-    }
-}
-
-// Whether a line may come where no beacon is due, with so many entries and pairs before it.
-fn may_come(kind: Kind, stage: Stage, entries: u8, pairs: u8) -> bool
-    ensures { result ≡ may_come kind stage entries pairs }
-{
-    match kind {
-        Kind::NoLine => return false,
-        Kind::NodeLine => return true,
-        Kind::EntryLine => return has_room(stage, entries),
-        Kind::PairLine => return has_room(stage, pairs),
-        Kind::ScanLine => return has_node(stage),
-        Kind::BeaconLine => return false,
-        Kind::CallLine => return has_node(stage),
-    }
-}
-
-fn fits(kind: Kind, stage: Stage, missing: u32, entries: u8, pairs: u8) -> bool
-    ensures { result ≡ fits_at kind stage missing entries pairs }
-{
-    if missing == 0 {
-        return may_come(kind, stage, entries, pairs);
-    }
-    is_beacon(kind)
 }
 
 impl Session {
-    pub fn take(self, call: Call) -> Turn
+    // Whether a line may come where no beacon is due.
+    fn may_come(self, call: Call) -> bool
+        ensures { result ≡ may_come call self }
+    {
+        match call {
+            Call::Node(_) => true,
+            Call::Entry(_) => self.stage.has_room(self.state.table.count),
+            Call::Failure(_) => self
+                .stage
+                .has_room(self.state.control.nlme.transmit_failures.count),
+            Call::Beacon(_) => false,
+            _ => self.stage.has_node(),
+        }
+    }
+
+    // Where a beacon is due nothing else may come.
+    fn fits(self, call: Call) -> bool
+        ensures { result ≡ fits call self }
+    {
+        if self.missing == 0 {
+            self.may_come(call)
+        } else {
+            matches!(call, Call::Beacon(_))
+        }
+    }
+
+    // A line taken. `None` is a line that is not of the format.
+    #[tactic(auto, unfolding(crate::specs::TraceCalls::taken))]
+    pub fn take(self, call: Option<Call>) -> Turn
         ensures { result ≡ taken call self }
     {
-        let kind = kind_of(call);
-        let stage = self.stage;
-        if !fits(
-            kind,
-            stage,
-            self.missing,
-            self.state.table.count,
-            self.state.control.nlme.transmit_failures.count,
-        ) {
-            return turn_saying(self.state, stage, self.missing, self.scan, Said::Bad);
-        }
-        match kind {
-            Kind::ScanLine => return self.scan_line(call),
-            Kind::BeaconLine => return self.scan_line(call),
-            Kind::CallLine => return self.called(call),
-            _ => return self.set_up(call),
+        match call {
+            Some(call) if self.fits(call) => self.make(call),
+            _ => self.saying(Said::Bad),
         }
     }
 }

@@ -1,3 +1,2 @@
 -- The laws of `trace_input`.
-pub mod LineKinds
 pub mod StackProfiles

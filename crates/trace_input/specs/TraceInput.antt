@@ -1,5 +1,5 @@
 -- What a line of a trace says, by its kind and the numbers in its fields (compare/FORMAT.md, "Input: the state" and "Input: calls").
-use Rattle.std.specs.Prelude.{ℕ, ◌+◌, ◌*◌, ◌%◌, Bool, true, false, cond, List, [], ◌∷◌, eqb, get_or}
+use Rattle.std.specs.Prelude.{Ok, Err, Option, Some, None, ℕ, ◌+◌, ◌*◌, ◌%◌, Bool, true, false, cond, [], ◌∷◌, eqb, get_or}
 use Rattle.nib.specs.declared.CapabilityInformation.{CapabilityInformation}
 use Rattle.nib.specs.declared.DeviceType.{DeviceType}
 use Rattle.nib.specs.declared.DeviceType.TheVariants.{Coordinator, Router, EndDevice, Invalid}
@@ -7,8 +7,6 @@ use Rattle.nib.specs.declared.ExtendedPanId.{ExtendedPanId}
 use Rattle.nib.specs.declared.IeeeAddress.{IeeeAddress}
 use Rattle.nib.specs.declared.Nib.{Nib}
 use Rattle.nib.specs.declared.NwkNeighbor.{NwkNeighbor}
-use Rattle.nib.specs.declared.OptionalIeee.{OptionalIeee}
-use Rattle.nib.specs.declared.OptionalIeee.TheVariants.{NoIeee, Ieee}
 use Rattle.nib.specs.declared.PanId.{PanId}
 use Rattle.nib.specs.declared.ShortAddress.{ShortAddress}
 use Rattle.discovery.specs.declared.mlme.Address.{Address}
@@ -23,54 +21,56 @@ use Rattle.management.specs.declared.RejoinResponse.{RejoinResponse}
 use Rattle.management.specs.declared.EndDeviceTimeoutResponse.{EndDeviceTimeoutResponse}
 use Rattle.management.specs.declared.ScanRange.{ScanRange}
 use Rattle.management.specs.declared.frame.LeaveOptions.{LeaveOptions}
+use Rattle.management.specs.declared.frame.ReceivedFrame.{ReceivedFrame}
 use Rattle.management.specs.declared.frame.ReceivedFrame.TheVariants.{Undecodable, Data, RejoinResponseCommand, TimeoutResponseCommand, LeaveCommand, OtherCommand, OtherFrame}
 use Rattle.management.specs.declared.frame.Source.{Source}
-use Rattle.join.specs.declared.association.AssociationOutcome.TheVariants.{Associated, AssociationFailed}
 use Rattle.join.specs.declared.association.AssociationResponse.{AssociationResponse}
-use Rattle.node.specs.declared.ReceptionOutcome.TheVariants.{NoData, ReceptionFailed, Received}
-use Rattle.trace_lines.specs.declared.Line.{Line}
+use Rattle.trace_lines.specs.declared.InputKind.{InputKind}
+use Rattle.trace_lines.specs.declared.InputKind.TheVariants as kind
+use Rattle.trace_lines.specs.declared.InputLine.{InputLine}
 use Rattle.trace_input.specs.declared.Call.{Call}
 use Rattle.trace_input.specs.declared.Call.TheVariants as call
 use Rattle.trace_input.specs.declared.NodeFields.{NodeFields}
+use Rattle.discovery.specs.Mlme.{mac_error}
 
 -- the number in field k (field 0 is the line's word), and what its type holds of it: the fields of a line that was read fit their types
-abbrev pub field : ℕ → Line → ℕ
+abbrev pub field : ℕ → InputLine → ℕ
 field k l = get_or l.numbers k 0
 
-abbrev pub bits4 : ℕ → Line → ℕ
+abbrev pub bits4 : ℕ → InputLine → ℕ
 bits4 k l = field k l % 16
 
-abbrev pub bits8 : ℕ → Line → ℕ
+abbrev pub bits8 : ℕ → InputLine → ℕ
 bits8 k l = field k l % 256
 
-abbrev pub bits16 : ℕ → Line → ℕ
+abbrev pub bits16 : ℕ → InputLine → ℕ
 bits16 k l = field k l % 65536
 
-abbrev pub bits32 : ℕ → Line → ℕ
+abbrev pub bits32 : ℕ → InputLine → ℕ
 bits32 k l = field k l % 4294967296
 
 -- a flag, and the identifiers
-abbrev pub flag : ℕ → Line → Bool
+abbrev pub flag : ℕ → InputLine → Bool
 flag k l = eqb (field k l) 1
 
-abbrev pub short : ℕ → Line → ShortAddress
+abbrev pub short : ℕ → InputLine → ShortAddress
 short k l = record { 0 = bits16 k l }
 
-abbrev pub pan_id_at : ℕ → Line → PanId
+abbrev pub pan_id_at : ℕ → InputLine → PanId
 pan_id_at k l = record { 0 = bits16 k l }
 
-abbrev pub ieee : ℕ → Line → IeeeAddress
+abbrev pub ieee : ℕ → InputLine → IeeeAddress
 ieee k l = record { 0 = field k l }
 
-abbrev pub extended_pan_id_at : ℕ → Line → ExtendedPanId
+abbrev pub extended_pan_id_at : ℕ → InputLine → ExtendedPanId
 extended_pan_id_at k l = record { 0 = field k l }
 
-abbrev pub capabilities : ℕ → Line → CapabilityInformation
+abbrev pub capabilities : ℕ → InputLine → CapabilityInformation
 capabilities k l = record { 0 = bits8 k l }
 
 -- `node`: network address, IEEE address, extended PAN id, PAN id, update id, capability information, stack profile, parent information,
 -- end device timeout, end device timeout default, leave request allowed; then sequence number, pending timeout request, timer in ms
-abbrev pub nib_of : Line → Nib
+abbrev pub nib_of : InputLine → Nib
 nib_of l =
     record {
       network_address = short 1 l;
@@ -86,7 +86,7 @@ nib_of l =
       leave_request_allowed = flag 11 l;
     }
 
-abbrev pub node_of : Line → NodeFields
+abbrev pub node_of : InputLine → NodeFields
 node_of l =
     record {
       nib = nib_of l;
@@ -100,7 +100,7 @@ unfoldable pub device_type_of : ℕ → DeviceType
 device_type_of n = get_or (Coordinator ∷ Router ∷ EndDevice ∷ []) n (Invalid n)
 
 -- `e`: "one neighbour entry, in the source's field order"
-abbrev pub entry_with : DeviceType → Line → NwkNeighbor
+abbrev pub entry_with : DeviceType → InputLine → NwkNeighbor
 entry_with type l =
     record {
       extended_address = ieee 1 l;
@@ -124,15 +124,15 @@ entry_with type l =
       pan_id = pan_id_at 19 l;
     }
 
-abbrev pub entry_of : Line → NwkNeighbor
+abbrev pub entry_of : InputLine → NwkNeighbor
 entry_of l = entry_with (device_type_of (bits8 3 l)) l
 
 -- `f`: short address, count
-abbrev pub failure_of : Line → TransmitFailure
+abbrev pub failure_of : InputLine → TransmitFailure
 failure_of l = record { address = short 1 l; count = bits8 2 l }
 
 -- of `discovery` and `join`: first channel, channel past the last, duration
-abbrev pub range_from : ℕ → Line → ScanRange
+abbrev pub range_from : ℕ → InputLine → ScanRange
 range_from k l = record { first = bits8 k l; past = bits8 (k + 1) l; duration = bits8 (k + 2) l }
 
 -- of `join`: kind (0 association, 1 orphan, 2 NWK rejoin, 3 channel change)
@@ -140,7 +140,7 @@ unfoldable pub rejoin_network_of : ℕ → RejoinNetwork
 rejoin_network_of n = get_or (Association ∷ Orphan ∷ NwkRejoin ∷ []) n ChannelChange
 
 -- `join`: kind, extended PAN id, capability information, security enabled, first channel, channel past the last, duration
-abbrev pub join_request_of : Line → NlmeJoinRequest
+abbrev pub join_request_of : InputLine → NlmeJoinRequest
 join_request_of l =
     record {
       extended_pan_id = extended_pan_id_at 2 l;
@@ -155,12 +155,12 @@ join_request_of l =
 abbrev pub packed : ℕ → ℕ → ℕ → ℕ → ℕ → ℕ
 packed profile version router depth device = profile + version * 16 + router * 1024 + depth * 2048 + device * 32768
 
-abbrev pub stack_profile_of : Line → StackProfile
+abbrev pub stack_profile_of : InputLine → StackProfile
 stack_profile_of l = record { 0 = packed (bits4 12 l) (bits4 13 l) (field 7 l % 2) (bits4 9 l) (field 8 l % 2) }
 
 -- `b`: channel, PAN id, address mode, address, extended PAN id, permit, router capacity, end device capacity, depth, update id, lqi, stack profile,
 -- protocol version, beacon order, superframe order; the address as its mode has it
-abbrev pub beacon_of : Address → Line → PanDescriptor
+abbrev pub beacon_of : Address → InputLine → PanDescriptor
 beacon_of a l =
     record {
       channel = bits8 1 l;
@@ -176,66 +176,66 @@ beacon_of a l =
     }
 
 -- `associate`: status, short address, IEEE address
-abbrev pub association_of : Line → AssociationResponse
+abbrev pub association_of : InputLine → AssociationResponse
 association_of l = record { status = bits8 1 l; association_address = short 2 l; device_address = ieee 3 l }
 
 -- of a received frame: source, source IEEE address or `-`
-abbrev pub ieee_of : Line → OptionalIeee
-ieee_of l = cond l.dash NoIeee (Ieee (ieee 2 l))
+abbrev pub ieee_of : InputLine → Option IeeeAddress
+ieee_of l = cond l.dash None (Some (ieee 2 l))
 
-abbrev pub source_of : Line → Source
+abbrev pub source_of : InputLine → Source
 source_of l = record { address = short 1 l; ieee = ieee_of l }
 
 -- what follows the source in `rejoinresponse`: network address, status; in `timeoutresponse`: status, parent information;
 -- in `leave`, after its destination: request, rejoin, remove children
-abbrev pub rejoin_response_of : Line → RejoinResponse
+abbrev pub rejoin_response_of : InputLine → RejoinResponse
 rejoin_response_of l = record { network_address = short 3 l; status = bits8 4 l }
 
-abbrev pub timeout_response_of : Line → EndDeviceTimeoutResponse
+abbrev pub timeout_response_of : InputLine → EndDeviceTimeoutResponse
 timeout_response_of l = record { status = bits8 3 l; parent_information = bits8 4 l }
 
-abbrev pub leave_options_of : Line → LeaveOptions
+abbrev pub leave_options_of : InputLine → LeaveOptions
 leave_options_of l = record { request = flag 4 l; rejoin = flag 5 l; remove_children = flag 6 l }
 
--- what a line says, for each kind in the order of the kinds
-unfoldable pub calls : Line → List Call
-calls l =
-    call.Entry (entry_of l)  -- e
-    ∷ call.Beacon (beacon_of (Short (pan_id_at 2 l) (short 4 l)) l)  -- b, address mode 2
-    ∷ call.Beacon (beacon_of (Extended (pan_id_at 2 l) (ieee 4 l)) l)  -- b, address mode 3
-    ∷ call.Reception NoData  -- nodata
-    ∷ call.Transmission true  -- sent
-    ∷ call.Tick (bits32 1 l)  -- tick
-    ∷ call.Node (node_of l)  -- node
-    ∷ call.Scan (bits32 1 l)  -- scan
-    ∷ call.Transmission false  -- sendfail
-    ∷ call.ScanFailed  -- scanfail
-    ∷ call.Reception ReceptionFailed  -- pollfail
-    ∷ call.Association (Associated (association_of l))  -- associate
-    ∷ call.Association AssociationFailed  -- associatefail
-    ∷ call.Reception (Received Undecodable)  -- undecodable
-    ∷ call.Reception (Received (Data (source_of l)))  -- data
-    ∷ call.Reception (Received (RejoinResponseCommand (source_of l) (rejoin_response_of l)))  -- rejoinresponse
-    ∷ call.Reception (Received (TimeoutResponseCommand (source_of l) (timeout_response_of l)))  -- timeoutresponse
-    ∷ call.Reception (Received (LeaveCommand (source_of l) (short 3 l) (leave_options_of l)))  -- leave
-    ∷ call.Reception (Received (OtherCommand (source_of l)))  -- command
-    ∷ call.Reception (Received OtherFrame)  -- otherframe
-    ∷ call.Discovery (range_from 1 l)  -- discovery
-    ∷ call.Join (join_request_of l)  -- join
-    ∷ call.Send (short 1 l) (flag 2 l)  -- send
-    ∷ call.Poll  -- poll
-    ∷ call.Receive  -- receive
-    ∷ call.Negotiate  -- negotiate
-    ∷ call.Keepalive  -- keepalive
-    ∷ call.TakeLeave  -- takeleave
-    ∷ call.TakeStatus  -- takestatus
-    ∷ call.Choose (extended_pan_id_at 1 l) (flag 2 l) (flag 3 l)  -- candidates
-    ∷ call.PrintState  -- state
-    ∷ call.Failure (failure_of l)  -- f
-    ∷ call.Page (bits16 1 l)  -- page
-    ∷ call.Refresh  -- refresh
-    ∷ []
+abbrev pub received : ReceivedFrame → Call
+received f = call.Reception (Ok (Some f))
 
--- what a line says; one of another kind is not of the format
-abbrev pub call_of : Line → Call
-call_of l = get_or (calls l) l.kind call.Bad
+-- what a line says, by its kind
+abbrev pub call_by : InputKind → InputLine → Call
+call_by kind.Entry l = call.Entry (entry_of l)  -- e
+call_by kind.ShortBeacon l = call.Beacon (beacon_of (Short (pan_id_at 2 l) (short 4 l)) l)  -- b, address mode 2
+call_by kind.ExtendedBeacon l = call.Beacon (beacon_of (Extended (pan_id_at 2 l) (ieee 4 l)) l)  -- b, address mode 3
+call_by kind.NoData l = call.Reception (Ok None)
+call_by kind.Sent l = call.Transmission true
+call_by kind.Tick l = call.Tick (bits32 1 l)
+call_by kind.Node l = call.Node (node_of l)
+call_by kind.Scan l = call.Scan (bits32 1 l)
+call_by kind.SendFailed l = call.Transmission false
+call_by kind.ScanFailed l = call.ScanFailed
+call_by kind.PollFailed l = call.Reception (Err mac_error)
+call_by kind.Associated l = call.Association (Ok (association_of l))
+call_by kind.AssociateFailed l = call.Association (Err mac_error)
+call_by kind.Undecodable l = received Undecodable
+call_by kind.Data l = received (Data (source_of l))
+call_by kind.RejoinResponse l = received (RejoinResponseCommand (source_of l) (rejoin_response_of l))
+call_by kind.TimeoutResponse l = received (TimeoutResponseCommand (source_of l) (timeout_response_of l))
+call_by kind.Leave l = received (LeaveCommand (source_of l) (short 3 l) (leave_options_of l))
+call_by kind.Command l = received (OtherCommand (source_of l))
+call_by kind.OtherFrame l = received OtherFrame
+call_by kind.Discovery l = call.Discovery (range_from 1 l)
+call_by kind.Join l = call.Join (join_request_of l)
+call_by kind.Send l = call.Send (short 1 l) (flag 2 l)
+call_by kind.Poll l = call.Poll
+call_by kind.Receive l = call.Receive
+call_by kind.Negotiate l = call.Negotiate
+call_by kind.Keepalive l = call.Keepalive
+call_by kind.TakeLeave l = call.TakeLeave
+call_by kind.TakeStatus l = call.TakeStatus
+call_by kind.Candidates l = call.Choose (extended_pan_id_at 1 l) (flag 2 l) (flag 3 l)
+call_by kind.State l = call.PrintState
+call_by kind.Pair l = call.Failure (failure_of l)  -- f
+call_by kind.Page l = call.Page (bits16 1 l)
+call_by kind.Refresh l = call.Refresh
+
+abbrev pub call_of : InputLine → Call
+call_of l = call_by l.kind l

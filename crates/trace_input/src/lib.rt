@@ -1,28 +1,24 @@
 // What a line of a trace says: the arguments of a call, from the numbers of the line.
 #![tactic(auto)]
 
-ghost use Rattle.std.specs.Prelude.{◌≡◌, ◌<◌, ◌≤◌};
+ghost use Rattle.std.specs.Prelude.{◌≡◌, ◌<◌};
 ghost use Rattle.discovery.specs.declared.mlme.Address.TheVariants.{Short, Extended};
-ghost use Rattle.join.specs.declared.association.AssociationOutcome.TheVariants.{Associated};
-ghost use Rattle.node.specs.declared.ReceptionOutcome.TheVariants.{Received};
-ghost use Rattle.trace_input.specs.declared.Call.TheVariants.{Reception};
-ghost use Rattle.trace_input.specs.TraceInput.{nib_of, node_of, device_type_of, entry_of, entry_with, failure_of, range_from, rejoin_network_of, join_request_of, stack_profile_of, beacon_of, bits16, bits32, flag, extended_pan_id_at, pan_id_at, short, ieee, association_of, ieee_of, source_of, rejoin_response_of, timeout_response_of, leave_options_of, call_of};
+ghost use Rattle.trace_input.specs.TraceInput.{nib_of, node_of, device_type_of, entry_of, entry_with, failure_of, range_from, rejoin_network_of, join_request_of, stack_profile_of, beacon_of, bits16, bits32, flag, extended_pan_id_at, pan_id_at, short, ieee, association_of, ieee_of, source_of, rejoin_response_of, timeout_response_of, leave_options_of, received, call_of};
 
 use discovery::mlme::{
-    Address, PanDescriptor, StackProfile, SuperframeSpecification, ZigbeeBeacon,
+    Address, MacError, PanDescriptor, StackProfile, SuperframeSpecification, ZigbeeBeacon,
 };
-use join::association::{AssociationOutcome, AssociationResponse};
+use join::association::AssociationResponse;
 use management::frame::{LeaveOptions, ReceivedFrame, Source};
 use management::{
     EndDeviceTimeoutResponse, NlmeJoinRequest, RejoinNetwork, RejoinResponse, ScanRange,
 };
 use nib::{
-    CapabilityInformation, DeviceType, ExtendedPanId, IeeeAddress, Nib, NwkNeighbor, OptionalIeee,
-    PanId, ShortAddress,
+    CapabilityInformation, DeviceType, ExtendedPanId, IeeeAddress, Nib, NwkNeighbor, PanId,
+    ShortAddress,
 };
-use node::ReceptionOutcome;
 use supervision::TransmitFailure;
-use trace_lines::Line;
+use trace_lines::{InputKind, InputLine};
 
 // What a `node` line gives.
 #[derive(Clone, Copy)]
@@ -33,10 +29,9 @@ pub struct NodeFields {
     pub remaining_ms: u32,
 }
 
-// What a line of the input says. `Bad` is a line that is not of the format.
+// What a line of the input says.
 #[derive(Clone, Copy)]
 pub enum Call {
-    Bad,
     Node(NodeFields),
     Entry(NwkNeighbor),
     Failure(TransmitFailure),
@@ -51,9 +46,9 @@ pub enum Call {
     Scan(u32),
     Beacon(PanDescriptor),
     ScanFailed,
-    Association(AssociationOutcome),
+    Association(Result<AssociationResponse, MacError>),
     Transmission(bool),
-    Reception(ReceptionOutcome),
+    Reception(Result<Option<ReceivedFrame>, MacError>),
     Tick(u32),
     TakeLeave,
     TakeStatus,
@@ -77,7 +72,7 @@ fn device_type_of(n: u8) -> DeviceType
     }
 }
 
-fn entry_with(line: Line, device_type: DeviceType) -> NwkNeighbor
+fn entry_with(line: InputLine, device_type: DeviceType) -> NwkNeighbor
     ensures { result ≡ entry_with device_type line }
 {
     let n = line.numbers;
@@ -104,14 +99,14 @@ fn entry_with(line: Line, device_type: DeviceType) -> NwkNeighbor
     }
 }
 
-fn entry_of(line: Line) -> NwkNeighbor
+fn entry_of(line: InputLine) -> NwkNeighbor
     ensures { result ≡ entry_of line }
 {
     let n = line.numbers;
-    return entry_with(line, device_type_of((n[3] % 256) as u8));
+    entry_with(line, device_type_of((n[3] % 256) as u8))
 }
 
-fn failure_of(line: Line) -> TransmitFailure
+fn failure_of(line: InputLine) -> TransmitFailure
     ensures { result ≡ failure_of line }
 {
     let n = line.numbers;
@@ -121,7 +116,7 @@ fn failure_of(line: Line) -> TransmitFailure
     }
 }
 
-fn nib_of(line: Line) -> Nib
+fn nib_of(line: InputLine) -> Nib
     ensures { result ≡ nib_of line }
 {
     let n = line.numbers;
@@ -140,7 +135,7 @@ fn nib_of(line: Line) -> Nib
     }
 }
 
-fn node_of(line: Line) -> NodeFields
+fn node_of(line: InputLine) -> NodeFields
     ensures { result ≡ node_of line }
 {
     let nib = nib_of(line);
@@ -153,7 +148,7 @@ fn node_of(line: Line) -> NodeFields
     }
 }
 
-fn range_of(line: Line, k: usize) -> ScanRange
+fn range_of(line: InputLine, k: usize) -> ScanRange
     requires { k < 18 }
     ensures { result ≡ range_from k line }
 {
@@ -176,7 +171,7 @@ fn rejoin_network_of(n: u64) -> RejoinNetwork
     }
 }
 
-fn join_request_of(line: Line) -> NlmeJoinRequest
+fn join_request_of(line: InputLine) -> NlmeJoinRequest
     ensures { result ≡ join_request_of line }
 {
     let n = line.numbers;
@@ -192,7 +187,7 @@ fn join_request_of(line: Line) -> NlmeJoinRequest
 }
 
 // The stack profile field of a beacon: stack profile, protocol version, router capacity, depth, end device capacity.
-fn stack_profile_of(line: Line) -> StackProfile
+fn stack_profile_of(line: InputLine) -> StackProfile
     ensures { result ≡ stack_profile_of line }
 {
     let n = line.numbers;
@@ -201,7 +196,7 @@ fn stack_profile_of(line: Line) -> StackProfile
     StackProfile(packed as u16)
 }
 
-fn beacon_of(line: Line, coord_address: Address) -> PanDescriptor
+fn beacon_of(line: InputLine, coord_address: Address) -> PanDescriptor
     ensures { result ≡ beacon_of coord_address line }
 {
     let stack_profile = stack_profile_of(line);
@@ -226,7 +221,7 @@ fn beacon_of(line: Line, coord_address: Address) -> PanDescriptor
     }
 }
 
-fn short_sender(line: Line) -> Address
+fn short_sender(line: InputLine) -> Address
     ensures { result ≡ Short (pan_id_at 2 line) (short 4 line) }
 {
     let n = line.numbers;
@@ -236,36 +231,35 @@ fn short_sender(line: Line) -> Address
     )
 }
 
-fn extended_sender(line: Line) -> Address
+fn extended_sender(line: InputLine) -> Address
     ensures { result ≡ Extended (pan_id_at 2 line) (ieee 4 line) }
 {
     let n = line.numbers;
     Address::Extended(PanId((n[2] % 65536) as u16), IeeeAddress(n[4]))
 }
 
-fn association_of(line: Line) -> AssociationOutcome
-    ensures { result ≡ Associated (association_of line) }
+fn association_of(line: InputLine) -> AssociationResponse
+    ensures { result ≡ association_of line }
 {
     let n = line.numbers;
-    let response = AssociationResponse {
+    AssociationResponse {
         status: (n[1] % 256) as u8,
         association_address: ShortAddress((n[2] % 65536) as u16),
         device_address: IeeeAddress(n[3]),
-    };
-    AssociationOutcome::Associated(response)
+    }
 }
 
-fn ieee_of(line: Line) -> OptionalIeee
+fn ieee_of(line: InputLine) -> Option<IeeeAddress>
     ensures { result ≡ ieee_of line }
 {
     if line.dash {
-        return OptionalIeee::NoIeee;
+        return None;
     }
     let n = line.numbers;
-    OptionalIeee::Ieee(IeeeAddress(n[2]))
+    Some(IeeeAddress(n[2]))
 }
 
-fn source_of(line: Line) -> Source
+fn source_of(line: InputLine) -> Source
     ensures { result ≡ source_of line }
 {
     let n = line.numbers;
@@ -276,7 +270,7 @@ fn source_of(line: Line) -> Source
     }
 }
 
-fn rejoin_response_of(line: Line) -> RejoinResponse
+fn rejoin_response_of(line: InputLine) -> RejoinResponse
     ensures { result ≡ rejoin_response_of line }
 {
     let n = line.numbers;
@@ -286,7 +280,7 @@ fn rejoin_response_of(line: Line) -> RejoinResponse
     }
 }
 
-fn timeout_response_of(line: Line) -> EndDeviceTimeoutResponse
+fn timeout_response_of(line: InputLine) -> EndDeviceTimeoutResponse
     ensures { result ≡ timeout_response_of line }
 {
     let n = line.numbers;
@@ -296,7 +290,7 @@ fn timeout_response_of(line: Line) -> EndDeviceTimeoutResponse
     }
 }
 
-fn leave_options_of(line: Line) -> LeaveOptions
+fn leave_options_of(line: InputLine) -> LeaveOptions
     ensures { result ≡ leave_options_of line }
 {
     let n = line.numbers;
@@ -307,7 +301,7 @@ fn leave_options_of(line: Line) -> LeaveOptions
     }
 }
 
-fn flag_of(line: Line, k: usize) -> bool
+fn flag_of(line: InputLine, k: usize) -> bool
     requires { k < 20 }
     ensures { result ≡ flag k line }
 {
@@ -315,7 +309,7 @@ fn flag_of(line: Line, k: usize) -> bool
     n[k] == 1
 }
 
-fn short_of(line: Line, k: usize) -> ShortAddress
+fn short_of(line: InputLine, k: usize) -> ShortAddress
     requires { k < 20 }
     ensures { result ≡ short k line }
 {
@@ -323,135 +317,83 @@ fn short_of(line: Line, k: usize) -> ShortAddress
     ShortAddress((n[k] % 65536) as u16)
 }
 
-fn network_of(line: Line) -> ExtendedPanId
+fn network_of(line: InputLine) -> ExtendedPanId
     ensures { result ≡ extended_pan_id_at 1 line }
 {
     let n = line.numbers;
     ExtendedPanId(n[1])
 }
 
-fn number_of(line: Line) -> u32
+fn number_of(line: InputLine) -> u32
     ensures { result ≡ bits32 1 line }
 {
     let n = line.numbers;
     (n[1] % 4294967296) as u32
 }
 
-fn length_of(line: Line) -> u16
+fn length_of(line: InputLine) -> u16
     ensures { result ≡ bits16 1 line }
 {
     let n = line.numbers;
     (n[1] % 65536) as u16
 }
 
-// Calls by the kinds of their lines, in parts, so that each is proved by itself.
-
-fn call_of_0_to_6(line: Line) -> Call
-    requires { line.kind < 7 }
-    ensures { result ≡ call_of line }
+fn received(frame: ReceivedFrame) -> Call
+    ensures { result ≡ received frame }
 {
-    let kind = line.kind;
-    match kind {
-        0 => return Call::Entry(entry_of(line)),
-        1 => return Call::Beacon(beacon_of(line, short_sender(line))),
-        2 => return Call::Beacon(beacon_of(line, extended_sender(line))),
-        3 => return Call::Reception(ReceptionOutcome::NoData),
-        4 => return Call::Transmission(true),
-        5 => return Call::Tick(number_of(line)),
-        _ => return Call::Node(node_of(line)),
-    }
-}
-
-fn call_of_7_to_12(line: Line) -> Call
-    requires { (7 ≤ line.kind) × (line.kind < 13) }
-    ensures { result ≡ call_of line }
-{
-    let kind = line.kind;
-    match kind {
-        7 => return Call::Scan(number_of(line)),
-        8 => return Call::Transmission(false),
-        9 => return Call::ScanFailed,
-        10 => return Call::Reception(ReceptionOutcome::ReceptionFailed),
-        11 => return Call::Association(association_of(line)),
-        _ => return Call::Association(AssociationOutcome::AssociationFailed),
-    }
-}
-
-fn frame_of(line: Line) -> ReceivedFrame
-    requires { (13 ≤ line.kind) × (line.kind < 20) }
-    ensures { Reception (Received result) ≡ call_of line }
-{
-    let kind = line.kind;
-    match kind {
-        13 => return ReceivedFrame::Undecodable,
-        14 => return ReceivedFrame::Data(source_of(line)),
-        15 => return ReceivedFrame::RejoinResponseCommand(
-            source_of(line),
-            rejoin_response_of(line),
-        ),
-        16 => return ReceivedFrame::TimeoutResponseCommand(
-            source_of(line),
-            timeout_response_of(line),
-        ),
-        17 => return ReceivedFrame::LeaveCommand(
-            source_of(line),
-            short_of(line, 3),
-            leave_options_of(line),
-        ),
-        18 => return ReceivedFrame::OtherCommand(source_of(line)),
-        _ => return ReceivedFrame::OtherFrame,
-    }
-}
-
-fn call_of_20_to_26(line: Line) -> Call
-    requires { (20 ≤ line.kind) × (line.kind < 27) }
-    ensures { result ≡ call_of line }
-{
-    let kind = line.kind;
-    match kind {
-        20 => return Call::Discovery(range_of(line, 1)),
-        21 => return Call::Join(join_request_of(line)),
-        22 => return Call::Send(short_of(line, 1), flag_of(line, 2)),
-        23 => return Call::Poll,
-        24 => return Call::Receive,
-        25 => return Call::Negotiate,
-        _ => return Call::Keepalive,
-    }
-}
-
-fn call_of_27_and_more(line: Line) -> Call
-    requires { 27 ≤ line.kind }
-    ensures { result ≡ call_of line }
-{
-    let kind = line.kind;
-    match kind {
-        27 => return Call::TakeLeave,
-        28 => return Call::TakeStatus,
-        29 => return Call::Choose(network_of(line), flag_of(line, 2), flag_of(line, 3)),
-        30 => return Call::PrintState,
-        31 => return Call::Failure(failure_of(line)),
-        32 => return Call::Page(length_of(line)),
-        33 => return Call::Refresh,
-        _ => return Call::Bad,
-    }
+    Call::Reception(Ok(Some(frame)))
 }
 
 // What a line of the input says.
-pub fn call_of(line: Line) -> Call
+pub fn call_of(line: InputLine) -> Call
     ensures { result ≡ call_of line }
 {
-    let kind = line.kind;
-    if kind < 7 {
-        return call_of_0_to_6(line);
+    match line.kind {
+        InputKind::Entry => Call::Entry(entry_of(line)),
+        InputKind::ShortBeacon => Call::Beacon(beacon_of(line, short_sender(line))),
+        InputKind::ExtendedBeacon => Call::Beacon(beacon_of(line, extended_sender(line))),
+        InputKind::NoData => Call::Reception(Ok(None)),
+        InputKind::Sent => Call::Transmission(true),
+        InputKind::Tick => Call::Tick(number_of(line)),
+        InputKind::Node => Call::Node(node_of(line)),
+        InputKind::Scan => Call::Scan(number_of(line)),
+        InputKind::SendFailed => Call::Transmission(false),
+        InputKind::ScanFailed => Call::ScanFailed,
+        InputKind::PollFailed => Call::Reception(Err(MacError)),
+        InputKind::Associated => Call::Association(Ok(association_of(line))),
+        InputKind::AssociateFailed => Call::Association(Err(MacError)),
+        InputKind::Undecodable => received(ReceivedFrame::Undecodable),
+        InputKind::Data => received(ReceivedFrame::Data(source_of(line))),
+        InputKind::RejoinResponse => received(ReceivedFrame::RejoinResponseCommand(
+            source_of(line),
+            rejoin_response_of(line),
+        )),
+        InputKind::TimeoutResponse => received(ReceivedFrame::TimeoutResponseCommand(
+            source_of(line),
+            timeout_response_of(line),
+        )),
+        InputKind::Leave => received(ReceivedFrame::LeaveCommand(
+            source_of(line),
+            short_of(line, 3),
+            leave_options_of(line),
+        )),
+        InputKind::Command => received(ReceivedFrame::OtherCommand(source_of(line))),
+        InputKind::OtherFrame => received(ReceivedFrame::OtherFrame),
+        InputKind::Discovery => Call::Discovery(range_of(line, 1)),
+        InputKind::Join => Call::Join(join_request_of(line)),
+        InputKind::Send => Call::Send(short_of(line, 1), flag_of(line, 2)),
+        InputKind::Poll => Call::Poll,
+        InputKind::Receive => Call::Receive,
+        InputKind::Negotiate => Call::Negotiate,
+        InputKind::Keepalive => Call::Keepalive,
+        InputKind::TakeLeave => Call::TakeLeave,
+        InputKind::TakeStatus => Call::TakeStatus,
+        InputKind::Candidates => {
+            Call::Choose(network_of(line), flag_of(line, 2), flag_of(line, 3))
+        }
+        InputKind::State => Call::PrintState,
+        InputKind::Pair => Call::Failure(failure_of(line)),
+        InputKind::Page => Call::Page(length_of(line)),
+        InputKind::Refresh => Call::Refresh,
     }
-    if kind < 13 {
-        return call_of_7_to_12(line);
-    }
-    if kind < 20 {
-        return Call::Reception(ReceptionOutcome::Received(frame_of(line)));
-    }
-    if kind < 27 {
-        return call_of_20_to_26(line);
-    }
-    return call_of_27_and_more(line);
 }

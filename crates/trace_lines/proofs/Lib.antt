@@ -3,5 +3,4 @@ pub mod Zips
 pub mod Places
 pub mod Texts
 pub mod Lines
-pub mod Tables
 pub mod Long

@@ -1,12 +1,9 @@
--- Laws of two lists side by side, and of a test that is computed for each element of a list. Assumes nothing.
+-- Laws of two lists side by side. Assumes nothing.
 use Prim.Native.Nat.{ℕ, zero, suc, ◌<◌, min}
 use mathlib.Core.Path.{◌≡◌, refl, sym, ap, ◌∙◌}
-use mathlib.Core.Bool.{Bool, true}
 use mathlib.Core.List.{List, [], ◌∷◌, zip_with}
 use native.Mathlib.Nat.{le_of_suc-le-suc, not-suc-le-zero, min-zero, zero-min, suc-min-suc}
 use lib.ListN.{length, get_or}
-use Rattle.lists.specs.Lists.{every}
-use Rattle.text.proofs.Numbers.{both}
 
 -- two lists side by side
 module _ {A B C : Type 0} (f : A → B → C) where
@@ -22,9 +19,3 @@ module _ {A B C : Type 0} (f : A → B → C) where
   zip-at (x ∷ xs) [] i a b c h k = absurd (not-suc-le-zero k)
   zip-at (x ∷ xs) (y ∷ ys) zero a b c h k = refl
   zip-at (x ∷ xs) (y ∷ ys) (suc i) a b c h k = zip-at xs ys i a b c (le_of_suc-le-suc h) (le_of_suc-le-suc k)
-
--- a fact that is computed for each element of a list
-pub every-at : (p : List ℕ → Bool) (l : List (List ℕ)) (i : ℕ) → p [] ≡ true → every p l ≡ true → p (get_or l i []) ≡ true
-every-at p [] i z h = z
-every-at p (x ∷ xs) zero z h = (both (p x) (every p xs) h).0
-every-at p (x ∷ xs) (suc i) z h = every-at p xs i z (both (p x) (every p xs) h).1

@@ -1,20 +1,16 @@
 -- What the private functions ask and say. No public promise uses it.
-use Rattle.std.specs.Prelude.{ℕ, Bool, cond, ◌&&◌, List, [], ◌∷◌, eqb, leb, length, drop}
-use Rattle.lists.specs.Lists.{every}
-use Rattle.trace_lines.specs.declared.Line.{Line}
-use Rattle.trace_lines.specs.TraceLines.{letters_of, all_fit, fits, line_as, no_line}
+use Rattle.std.specs.Prelude.{ℕ, cond, Option, Some, None, List, [], ◌∷◌, eqb, drop}
+use Rattle.trace_lines.specs.declared.InputKind.{InputKind}
+use Rattle.trace_lines.specs.declared.InputLine.{InputLine}
+use Rattle.trace_lines.specs.TraceLines.{letters_of, all_fit, fits, line_as}
 
--- the line by the letters of kind k, or by kind k, where it fits
-abbrev pub read_as : ℕ → List ℕ → List (List ℕ) → Line
-read_as k letters fs = cond (all_fit letters (drop 1 fs)) (line_as k letters fs) no_line
+-- the line by the letters of a kind, or by the kind, where it fits
+abbrev pub read_as : InputKind → List (List ℕ) → Option InputLine
+read_as k fs = cond (all_fit (letters_of k) (drop 1 fs)) (Some (line_as k fs)) None
 
-abbrev pub read_kind : ℕ → List ℕ → List (List ℕ) → Line
-read_kind k kind fs = cond (fits fs kind) (line_as k (letters_of kind) fs) no_line
+abbrev pub read_kind : InputKind → List (List ℕ) → Option InputLine
+read_kind k fs = cond (fits fs k) (Some (line_as k fs)) None
 
 -- the tab before field i
 abbrev pub tab_before : ℕ → List ℕ
 tab_before i = cond (eqb i 0) [] (9 ∷ [])
-
--- at most 255 kinds, each with at most 19 letters
-abbrev pub is_table : List (List ℕ) → Bool
-is_table kinds = leb (length kinds) 255 && every (λ k. leb (length (letters_of k)) 19) kinds

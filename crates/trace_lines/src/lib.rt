@@ -1,45 +1,165 @@
-// Lines of a trace as numbers: read from a slice, and written into a lent buffer.
+// Lines of a trace: read from a slice as a kind and numbers, and written into a lent buffer from typed fields.
 #![tactic(auto)]
 
-ghost use Rattle.std.specs.Prelude.{◌≡◌, [], ◌∷◌, ◌++◌, cond, true, ◌≤◌, min, length, get_or};
-ghost use Rattle.std.proofs.lemmas.List.Edits.{sets};
-ghost use Rattle.text.specs.Text.{bytes, parts, fields, same_text, hex_of, hex_text};
-ghost use Rattle.trace_lines.specs.TraceLines.{greatest, letters_of, number_if, number_of, is_dash, no_line, read_by, line_of, field_text, joined, texts_of, line_text, words};
-ghost use Rattle.trace_lines.specs.Private.{is_table, read_as, read_kind, tab_before};
+ghost use Rattle.std.specs.Prelude.{◌≡◌, ◌++◌, cond, ◌≤◌, length, map};
+ghost use Rattle.text.specs.Text.{bytes, fields, same_text, hex_of, hex_text};
+ghost use Rattle.trace_lines.specs.TraceLines.{word_of, letters_of, greatest, number_if, number_of, is_dash, line_of, word_text, or_dash_text, flag_text, field_text, joined, line_text, Wrote};
+ghost use Rattle.trace_lines.specs.Private.{read_as, read_kind, tab_before};
 
-use text::OptionalNumber;
-
-// The kinds of lines that are read: a word, a space, and a letter for each further field.
-const INPUT: [u8; 400] =
-    *b"e G4bfsbbbbfGbbfbffb4;b b424Gfffnbbnnnn;b b43GGfffnbbnnnn;nodata ;sent ;tick m;node 4GG4bbbbbbfbbm;scan m;sendfail ;scanfail ;pollfail ;associate b4G;associatefail ;undecodable ;data 4o;rejoinresponse 4o4b;timeoutresponse 4obb;leave 4o4fff;command 4o;otherframe ;discovery bbb;join kGbfbbb;send 4f;poll ;receive ;negotiate ;keepalive ;takeleave ;takestatus ;candidates Gff;state ;f 4b;page p;refresh ";
-
-// The kinds of lines that are written: a letter for each field.
-const OUTPUT: [u8; 152] =
-    *b"wG4bfsbbbbfGbbfbffb4;w4GG4bbbbbbfbbm;w4b;wb;wbbb;wb44fffff;w44w44bf;w44w4o4Gbfb;w44w4o4Gbfff;w44;w;w4;wG4bbbbbbfff;ww4Gb;ww;wf;wof;wbb;wbbbbbbbbbbbbbbbb";
-
-// The words that are written.
-const WORDS: [u8; 457] =
-    *b"e node f refused scan associate transmit poll receive setchannel setaddress reset discovered d discoveryfailed confirm sendanswer pollanswer negotiated keepaliveanswer expired leaveindication statusindication nothing candidates rejoinresponse timeoutresponse end data rejoinrequest timeoutrequest leave Success InvalidRequest NotPermitted NoNetworks PanAtCapacity PanAccessDenied MacError Ok NotJoined ParentLinkFailure Data Nothing Undecodable 1 0 bad done";
-
-// A line: its kind, how many fields it has, and the numbers in them. `dash` says that the field for an IEEE address is `-`.
+// The kinds of lines that are read.
 #[derive(Clone, Copy)]
-pub struct Line {
-    pub kind: u8,
-    pub count: u8,
+pub enum InputKind {
+    Entry,
+    ShortBeacon,
+    ExtendedBeacon,
+    NoData,
+    Sent,
+    Tick,
+    Node,
+    Scan,
+    SendFailed,
+    ScanFailed,
+    PollFailed,
+    Associated,
+    AssociateFailed,
+    Undecodable,
+    Data,
+    RejoinResponse,
+    TimeoutResponse,
+    Leave,
+    Command,
+    OtherFrame,
+    Discovery,
+    Join,
+    Send,
+    Poll,
+    Receive,
+    Negotiate,
+    Keepalive,
+    TakeLeave,
+    TakeStatus,
+    Candidates,
+    State,
+    Pair,
+    Page,
+    Refresh,
+}
+
+// All kinds, in the order in which a line is tried.
+const KINDS: [InputKind; 34] = [
+    InputKind::Entry,
+    InputKind::ShortBeacon,
+    InputKind::ExtendedBeacon,
+    InputKind::NoData,
+    InputKind::Sent,
+    InputKind::Tick,
+    InputKind::Node,
+    InputKind::Scan,
+    InputKind::SendFailed,
+    InputKind::ScanFailed,
+    InputKind::PollFailed,
+    InputKind::Associated,
+    InputKind::AssociateFailed,
+    InputKind::Undecodable,
+    InputKind::Data,
+    InputKind::RejoinResponse,
+    InputKind::TimeoutResponse,
+    InputKind::Leave,
+    InputKind::Command,
+    InputKind::OtherFrame,
+    InputKind::Discovery,
+    InputKind::Join,
+    InputKind::Send,
+    InputKind::Poll,
+    InputKind::Receive,
+    InputKind::Negotiate,
+    InputKind::Keepalive,
+    InputKind::TakeLeave,
+    InputKind::TakeStatus,
+    InputKind::Candidates,
+    InputKind::State,
+    InputKind::Pair,
+    InputKind::Page,
+    InputKind::Refresh,
+];
+
+// A line that is read: its kind and the numbers in its fields. `dash` says that the field for an IEEE address is `-`.
+#[derive(Clone, Copy)]
+pub struct InputLine {
+    pub kind: InputKind,
     pub dash: bool,
     pub numbers: [u64; 20],
 }
 
-// A line that is none of a trace.
-fn no_line() -> Line
-    ensures { result ≡ no_line }
-{
-    let numbers = [0u64; 20];
-    Line {
-        kind: 255,
-        count: 0,
-        dash: false,
-        numbers,
+impl InputKind {
+    // The word that stands in the first field.
+    fn word(self) -> &'static [u8]
+        ensures { result.now ≡ word_of self }
+    {
+        match self {
+            InputKind::Entry => b"e",
+            InputKind::ShortBeacon => b"b",
+            InputKind::ExtendedBeacon => b"b",
+            InputKind::NoData => b"nodata",
+            InputKind::Sent => b"sent",
+            InputKind::Tick => b"tick",
+            InputKind::Node => b"node",
+            InputKind::Scan => b"scan",
+            InputKind::SendFailed => b"sendfail",
+            InputKind::ScanFailed => b"scanfail",
+            InputKind::PollFailed => b"pollfail",
+            InputKind::Associated => b"associate",
+            InputKind::AssociateFailed => b"associatefail",
+            InputKind::Undecodable => b"undecodable",
+            InputKind::Data => b"data",
+            InputKind::RejoinResponse => b"rejoinresponse",
+            InputKind::TimeoutResponse => b"timeoutresponse",
+            InputKind::Leave => b"leave",
+            InputKind::Command => b"command",
+            InputKind::OtherFrame => b"otherframe",
+            InputKind::Discovery => b"discovery",
+            InputKind::Join => b"join",
+            InputKind::Send => b"send",
+            InputKind::Poll => b"poll",
+            InputKind::Receive => b"receive",
+            InputKind::Negotiate => b"negotiate",
+            InputKind::Keepalive => b"keepalive",
+            InputKind::TakeLeave => b"takeleave",
+            InputKind::TakeStatus => b"takestatus",
+            InputKind::Candidates => b"candidates",
+            InputKind::State => b"state",
+            InputKind::Pair => b"f",
+            InputKind::Page => b"page",
+            InputKind::Refresh => b"refresh",
+        }
+    }
+
+    // A letter for each further field: what stands in it.
+    fn letters(self) -> &'static [u8]
+        ensures value { result.now ≡ letters_of self }
+        ensures few { length result.now ≤ 19 }
+    {
+        match self {
+            InputKind::Entry => b"G4bfsbbbbfGbbfbffb4",
+            InputKind::ShortBeacon => b"b424Gfffnbbnnnn",
+            InputKind::ExtendedBeacon => b"b43GGfffnbbnnnn",
+            InputKind::Tick => b"m",
+            InputKind::Node => b"4GG4bbbbbbfbbm",
+            InputKind::Scan => b"m",
+            InputKind::Associated => b"b4G",
+            InputKind::Data => b"4o",
+            InputKind::RejoinResponse => b"4o4b",
+            InputKind::TimeoutResponse => b"4obb",
+            InputKind::Leave => b"4o4fff",
+            InputKind::Command => b"4o",
+            InputKind::Discovery => b"bbb",
+            InputKind::Join => b"kGbfbbb",
+            InputKind::Send => b"4f",
+            InputKind::Candidates => b"Gff",
+            InputKind::Pair => b"4b",
+            InputKind::Page => b"p",
+            _ => b"",
+        }
     }
 }
 
@@ -58,173 +178,251 @@ fn most(letter: u8) -> u32
     }
 }
 
-fn number_if(test: bool, n: u64) -> OptionalNumber
+fn number_if(test: bool, n: u64) -> Option<u64>
     ensures { result ≡ number_if test n }
 {
-    if test {
-        return OptionalNumber::Number(n);
-    }
-    OptionalNumber::NoNumber
+    if test { Some(n) } else { None }
 }
 
 // The number of an IEEE address, and 0 for the dash that stands for none.
-fn read_or_dash(f: &[u8]) -> OptionalNumber
-    ensures { result ≡ cond (same_text f.now (bytes "-")) (OptionalNumber.Number 0) (hex_of 16 f.now) }
+fn read_or_dash(f: &[u8]) -> Option<u64>
+    ensures { result ≡ cond (same_text f.now (bytes "-")) (Some 0) (hex_of 16 f.now) }
 {
-    if text::same(f, b"-") {
-        return OptionalNumber::Number(0);
+    if f == b"-".as_slice() {
+        Some(0)
+    } else {
+        text::hex(f, 16)
     }
-    text::hex(f, 16)
 }
 
 // The number in a field, by its letter.
 #[tactic(auto, unfolding(crate::specs::TraceLines::number_of))]
-fn read_number(letter: u8, f: &[u8]) -> OptionalNumber
+fn read_number(letter: u8, f: &[u8]) -> Option<u64>
     ensures { result ≡ number_of letter f.now }
 {
-    if letter == b'4' {
-        return text::hex(f, 4);
+    match letter {
+        b'4' => text::hex(f, 4),
+        b'G' => text::hex(f, 16),
+        b'o' => read_or_dash(f),
+        b'2' => number_if(f == b"2".as_slice(), 2),
+        b'3' => number_if(f == b"3".as_slice(), 3),
+        _ => text::decimal(f, most(letter)),
     }
-    if letter == b'G' {
-        return text::hex(f, 16);
-    }
-    if letter == b'o' {
-        return read_or_dash(f);
-    }
-    if letter == b'2' {
-        return number_if(text::same(f, b"2"), 2);
-    }
-    if letter == b'3' {
-        return number_if(text::same(f, b"3"), 3);
-    }
-    text::decimal(f, most(letter))
 }
 
-// Whether a dash was read, or stands in this field.
-fn dash_too(dash: bool, letter: u8, f: &[u8]) -> bool
-    ensures { result ≡ cond dash true (is_dash letter f.now) }
+// Whether a field that can be a dash is one.
+fn is_dash(letter: u8, f: &[u8]) -> bool
+    ensures { result ≡ is_dash letter f.now }
 {
-    if dash {
-        return true;
-    }
-    if letter == b'o' {
-        return text::same(f, b"-");
-    }
-    false
+    letter == b'o' && f == b"-".as_slice()
 }
 
-// The line by the letters of kind k, or none where they don't fit its further fields.
-fn read_as(k: u8, letters: &[u8], line: &[u8]) -> Line
-    requires { length letters.now ≤ 19 }
-    ensures { result ≡ read_as k letters.now (fields line.now) }
+// The line by the letters of a kind, or none where they don't fit its further fields.
+fn read_as(kind: InputKind, line: &[u8]) -> Option<InputLine>
+    ensures { result ≡ read_as kind (fields line.now) }
 {
+    let letters = kind.letters();
     if text::part_count(line, b'\t') != letters.len() + 1 {
-        return no_line();
+        return None;
     }
     let mut numbers = [0u64; 20];
     let mut dash = false;
     let mut at = text::field(line, 0).len() + 1;
-    let mut i = 0;
-    while i < letters.len() {
-        let letter = letters[i];
+    for (i, letter) in letters.iter().enumerate() {
         let f = text::part(&line[at..], b'\t', 0);
-        let OptionalNumber::Number(n) = read_number(letter, f) else {
-            return no_line();
-        };
-        numbers[i + 1] = n;
-        dash = dash_too(dash, letter, f);
+        numbers[i + 1] = read_number(*letter, f)?;
+        dash = dash || is_dash(*letter, f);
         at += f.len() + 1;
-        i += 1;
     }
-    Line {
-        kind: k,
-        count: (i + 1) as u8,
+    Some(InputLine {
+        kind,
         dash,
         numbers,
-    }
+    })
 }
 
-// The line by kind k, or none where it doesn't fit.
-fn read_kind(k: u8, kind: &[u8], line: &[u8]) -> Line
-    requires { length (letters_of kind.now) ≤ 19 }
-    ensures { result ≡ read_kind k kind.now (fields line.now) }
+// The line by a kind, or none where it doesn't fit.
+fn read_kind(kind: InputKind, line: &[u8]) -> Option<InputLine>
+    ensures { result ≡ read_kind kind (fields line.now) }
 {
-    if !text::same(text::field(line, 0), text::part(kind, b' ', 0)) {
-        return no_line();
+    if text::field(line, 0) == kind.word() {
+        return read_as(kind, line);
     }
-    read_as(k, text::part(kind, b' ', 1), line)
+    None
 }
 
-// The line by the first kind of a table that fits.
-fn read_by(table: &[u8], line: &[u8]) -> Line
-    requires { is_table (parts 59 table.now) ≡ true }
-    ensures { result ≡ read_by (parts 59 table.now) (fields line.now) }
-{
-    let mut at = 0;
-    let mut k: u8 = 0;
-    loop {
-        let kind = text::part(&table[at..], b';', 0);
-        let read = read_kind(k, kind, line);
-        if read.kind != 255 {
-            return read;
-        }
-        let end = at + kind.len();
-        if end == table.len() {
-            return read;
-        }
-        at = end + 1;
-        k += 1;
-    }
-}
-
-// The numbers in the fields of a line; of a line that is none of a trace, kind 255.
-#[tactic(auto, unfolding(crate::specs::TraceLines::line_of))]
-pub fn read_line(line: &[u8]) -> Line
+// The kind of a line and the numbers in its fields, by the first kind that fits; none where the line is none of a trace.
+pub fn read_line(line: &[u8]) -> Option<InputLine>
     ensures { result ≡ line_of line.now }
 {
-    read_by(&INPUT, line)
+    for kind in KINDS {
+        let read = read_kind(kind, line);
+        if read.is_some() {
+            return read;
+        }
+    }
+    None
 }
 
-// Writes the word of a number.
-fn write_word(out: &mut [u8], at: usize, n: u64) -> usize
-    ensures { (result ≡ length (get_or words n [])) × (out.new ≡ sets out.old at (get_or words n [])) }
-{
-    text::write(out, at, text::part(&WORDS, b' ', n as usize))
+// The words that are written.
+#[derive(Clone, Copy)]
+pub enum Word {
+    E,
+    Node,
+    F,
+    Refused,
+    Scan,
+    Associate,
+    Transmit,
+    Poll,
+    Receive,
+    SetChannel,
+    SetAddress,
+    Reset,
+    Discovered,
+    D,
+    DiscoveryFailed,
+    Confirm,
+    SendAnswer,
+    PollAnswer,
+    Negotiated,
+    KeepaliveAnswer,
+    Expired,
+    LeaveIndication,
+    StatusIndication,
+    Nothing,
+    Candidates,
+    RejoinResponse,
+    TimeoutResponse,
+    End,
+    DataFrame,
+    RejoinRequest,
+    TimeoutRequest,
+    Leave,
+    Success,
+    InvalidRequest,
+    NotPermitted,
+    NoNetworks,
+    PanAtCapacity,
+    PanAccessDenied,
+    MacError,
+    Ok,
+    NotJoined,
+    ParentLinkFailure,
+    PolledData,
+    PolledNothing,
+    Undecodable,
+    Bad,
+    Done,
+}
+
+// A field of a line that is written: a word; 4 hexadecimal digits, 16, or 16 or a dash; a flag, 0 or 1; or a decimal number of a type.
+#[derive(Clone, Copy)]
+pub enum Field {
+    Word(Word),
+    Short(u16),
+    Long(u64),
+    OrDash(Option<u64>),
+    Flag(bool),
+    U8(u8),
+    U16(u16),
+    U32(u32),
+}
+
+impl Word {
+    // The word's text.
+    fn text(self) -> &'static [u8]
+        ensures { result.now ≡ word_text self }
+    {
+        match self {
+            Word::E => b"e",
+            Word::Node => b"node",
+            Word::F => b"f",
+            Word::Refused => b"refused",
+            Word::Scan => b"scan",
+            Word::Associate => b"associate",
+            Word::Transmit => b"transmit",
+            Word::Poll => b"poll",
+            Word::Receive => b"receive",
+            Word::SetChannel => b"setchannel",
+            Word::SetAddress => b"setaddress",
+            Word::Reset => b"reset",
+            Word::Discovered => b"discovered",
+            Word::D => b"d",
+            Word::DiscoveryFailed => b"discoveryfailed",
+            Word::Confirm => b"confirm",
+            Word::SendAnswer => b"sendanswer",
+            Word::PollAnswer => b"pollanswer",
+            Word::Negotiated => b"negotiated",
+            Word::KeepaliveAnswer => b"keepaliveanswer",
+            Word::Expired => b"expired",
+            Word::LeaveIndication => b"leaveindication",
+            Word::StatusIndication => b"statusindication",
+            Word::Nothing => b"nothing",
+            Word::Candidates => b"candidates",
+            Word::RejoinResponse => b"rejoinresponse",
+            Word::TimeoutResponse => b"timeoutresponse",
+            Word::End => b"end",
+            Word::DataFrame => b"data",
+            Word::RejoinRequest => b"rejoinrequest",
+            Word::TimeoutRequest => b"timeoutrequest",
+            Word::Leave => b"leave",
+            Word::Success => b"Success",
+            Word::InvalidRequest => b"InvalidRequest",
+            Word::NotPermitted => b"NotPermitted",
+            Word::NoNetworks => b"NoNetworks",
+            Word::PanAtCapacity => b"PanAtCapacity",
+            Word::PanAccessDenied => b"PanAccessDenied",
+            Word::MacError => b"MacError",
+            Word::Ok => b"Ok",
+            Word::NotJoined => b"NotJoined",
+            Word::ParentLinkFailure => b"ParentLinkFailure",
+            Word::PolledData => b"Data",
+            Word::PolledNothing => b"Nothing",
+            Word::Undecodable => b"Undecodable",
+            Word::Bad => b"bad",
+            Word::Done => b"done",
+        }
+    }
 }
 
 // Writes an IEEE address, or the dash that stands for none.
-fn write_or_dash(out: &mut [u8], at: usize, n: u64, dash: bool) -> usize
-    ensures { (result ≡ length (cond dash (bytes "-") (hex_text 16 n))) × (out.new ≡ sets out.old at (cond dash (bytes "-") (hex_text 16 n))) }
+fn write_or_dash(out: &mut [u8], at: usize, n: Option<u64>) -> usize
+    ensures { Wrote out.old at out.new result (or_dash_text n) }
 {
-    if dash {
-        return text::write(out, at, b"-");
+    match n {
+        None => text::write(out, at, b"-"),
+        Some(n) => text::write_hex(out, at, n, 16),
     }
-    text::write_hex(out, at, n, 16)
 }
 
-// Writes a field by its letter.
-#[tactic(auto, unfolding(crate::specs::TraceLines::field_text))]
-fn write_field(out: &mut [u8], at: usize, letter: u8, n: u64, dash: bool) -> usize
-    ensures { (result ≡ length (field_text dash letter n)) × (out.new ≡ sets out.old at (field_text dash letter n)) }
+// Writes a flag: 1 or 0.
+fn write_flag(out: &mut [u8], at: usize, flag: bool) -> usize
+    ensures { Wrote out.old at out.new result (flag_text flag) }
 {
-    if letter == b'w' {
-        return write_word(out, at, n);
+    let digit = if flag { b"1" } else { b"0" };
+    text::write(out, at, digit)
+}
+
+// Writes a field.
+fn write_field(out: &mut [u8], at: usize, field: Field) -> usize
+    ensures { Wrote out.old at out.new result (field_text field) }
+{
+    match field {
+        Field::Word(word) => text::write(out, at, word.text()),
+        Field::Short(n) => text::write_hex(out, at, u64::from(n), 4),
+        Field::Long(n) => text::write_hex(out, at, n, 16),
+        Field::OrDash(n) => write_or_dash(out, at, n),
+        Field::Flag(flag) => write_flag(out, at, flag),
+        Field::U8(n) => text::write_decimal(out, at, u32::from(n)),
+        Field::U16(n) => text::write_decimal(out, at, u32::from(n)),
+        Field::U32(n) => text::write_decimal(out, at, n),
     }
-    if letter == b'4' {
-        return text::write_hex(out, at, n, 4);
-    }
-    if letter == b'G' {
-        return text::write_hex(out, at, n, 16);
-    }
-    if letter == b'o' {
-        return write_or_dash(out, at, n, dash);
-    }
-    text::write_decimal(out, at, (n & 0xffff_ffff) as u32)
 }
 
 // Writes the tab before field i; the first field has none.
 fn write_tab(out: &mut [u8], at: usize, i: usize) -> usize
-    ensures { (result ≡ length (tab_before i)) × (out.new ≡ sets out.old at (tab_before i)) }
+    ensures { Wrote out.old at out.new result (tab_before i) }
 {
     if i == 0 {
         return 0;
@@ -233,50 +431,33 @@ fn write_tab(out: &mut [u8], at: usize, i: usize) -> usize
 }
 
 // Writes field i with the tab before it.
-fn write_next(out: &mut [u8], at: usize, i: usize, letter: u8, n: u64, dash: bool) -> usize
+fn write_next(out: &mut [u8], at: usize, i: usize, field: Field) -> usize
     requires { at ≤ 100000 }
-    ensures { (result ≡ length (tab_before i ++ field_text dash letter n)) × (out.new ≡ sets out.old at (tab_before i ++ field_text dash letter n)) }
+    ensures { Wrote out.old at out.new result (tab_before i ++ field_text field) }
 {
     let tab = write_tab(out, at, i);
-    tab + write_field(out, at + tab, letter, n, dash)
+    tab + write_field(out, at + tab, field)
 }
 
-fn smaller(a: usize, b: usize) -> usize
-    ensures { result ≡ min a b }
+// Writes the fields of a line.
+fn write_fields(out: &mut [u8], start: usize, line: &[Field]) -> usize
+    requires room { start ≤ 65535 }
+    requires few { length line.now ≤ 20 }
+    ensures { Wrote out.old start out.new result (joined (map field_text line.now)) }
 {
-    if a <= b { a } else { b }
-}
-
-// Writes the fields of a line by their letters.
-fn write_fields(out: &mut [u8], start: usize, letters: &[u8], line: Line) -> usize
-    requires { start ≤ 65535 }
-    ensures { (result ≡ length (joined (texts_of letters.now line))) × (out.new ≡ sets out.old start (joined (texts_of letters.now line))) }
-{
-    let count = smaller(line.count as usize, smaller(letters.len(), 20));
-    let dash = line.dash;
     let mut written = 0;
-    let mut i = 0;
-    while i < count {
-        written += write_next(out, start + written, i, letters[i], line.numbers[i], dash);
-        i += 1;
+    for (i, field) in line.iter().enumerate() {
+        written += write_next(out, start + written, i, *field);
     }
     written
 }
 
-// Writes a line by its letters.
-fn write_by(out: &mut [u8], at: usize, letters: &[u8], line: Line) -> usize
-    requires { at ≤ 65535 }
-    ensures { (result ≡ length (joined (texts_of letters.now line) ++ (10 ∷ []))) × (out.new ≡ sets out.old at (joined (texts_of letters.now line) ++ (10 ∷ []))) }
-{
-    let n = write_fields(out, at, letters, line);
-    n + text::write(out, at + n, b"\n")
-}
-
-// Writes a line at a place, as far as it fits, and returns its length, which is at most 420.
+// Writes a line at a place, as far as it fits, and returns its length. A line has at most 20 fields, and so at most 420 bytes; no more are written.
 #[tactic(auto, unfolding(crate::specs::TraceLines::line_text))]
-pub fn write_line(out: &mut [u8], at: u16, line: Line) -> usize
-    ensures { (result ≡ length (line_text line)) × (out.new ≡ sets out.old at (line_text line)) }
+pub fn write_line(out: &mut [u8], at: u16, line: &[Field]) -> usize
+    ensures { Wrote out.old at out.new result (line_text line.now) }
 {
-    let kind = line.kind as usize;
-    write_by(out, at as usize, text::part(&OUTPUT, b';', kind), line)
+    let start = usize::from(at);
+    let n = write_fields(out, start, lists::in_use(line, 20));
+    n + text::write(out, start + n, b"\n")
 }

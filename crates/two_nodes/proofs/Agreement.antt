@@ -1,6 +1,7 @@
 -- The relation between two nodes, and that every call keeps it and shows the same. Assumes nothing.
 -- Two tables are never compared: each law of Sight.antt and States.antt is of one state.
 -- It says that what a call looks at or writes is a function of what network n sees.
+use Rattle.std.specs.Prelude.{Some, None, Result, Ok, Err, Option}
 use Prim.Native.Nat.{ℕ, ◌≤◌}
 use mathlib.Core.Path.{◌≡◌, refl, sym, ap, ap₂, ◌∙◌, subst, subst⁻¹, subst₂}
 use mathlib.Core.Bool.{Bool, true, false, cond}
@@ -11,7 +12,6 @@ use Rattle.lists.specs.Lists.{select}
 use Rattle.lists.proofs.Conditions.{split, both-cases}
 use Rattle.nib.specs.declared.CapabilityInformation.{CapabilityInformation}
 use Rattle.nib.specs.declared.NwkNeighbor.{NwkNeighbor}
-use Rattle.nib.specs.declared.Neighbor.{Neighbor}
 use Rattle.nib.specs.NeighborTable.{parent_of}
 use Rattle.nib.specs.Identifiers.{bit}
 use Rattle.discovery.specs.Mlme.{descriptors_of}
@@ -23,7 +23,7 @@ use Rattle.management.specs.declared.RejoinNetwork.{RejoinNetwork}
 use Rattle.management.specs.declared.PollAnswer.{PollAnswer}
 use Rattle.management.specs.declared.frame.ReceivedFrame.{ReceivedFrame}
 use Rattle.nlme.specs.Nlme.{parent_address, nlme_ticked}
-use Rattle.operation.specs.Operation.{with_nlme, is_idle, asking, ending, For, scan_for, association_for, transmission_for, reception_for}
+use Rattle.operation.specs.Operation.{with_nlme, is_idle, asking, ending, scan_for, association_for, transmission_for, reception_for}
 use Rattle.operation.specs.declared.Purpose.{Purpose}
 use Rattle.operation.specs.declared.ScanFor.{ScanFor}
 use Rattle.operation.specs.declared.TransmissionFor.{TransmissionFor}
@@ -35,20 +35,22 @@ use Rattle.operation.specs.declared.Move.{Move}
 use Rattle.operation.specs.declared.Decision.{Decision}
 use Rattle.exchange.specs.Exchange.{tick_told, leave_taken, status_taken}
 use Rattle.join.specs.Join.{join_started, associated}
-use Rattle.join.specs.declared.association.AssociationOutcome.{AssociationOutcome}
 use Rattle.join.specs.Rejoin.{rejoin_started, try_next, try_goes_on, request_sent}
 use Rattle.node.specs.Looks.{with_control, entries, parent, tried, next, moved, potential_cleared, finish, deciding}
 use Rattle.node.specs.Refusals.{refuse, bad, start, outcome}
 use Rattle.node.specs.Calls.{with_chosen, associate, join_by, scan_failed, with_scan, rejoin_among, scan_heard, scan_over, association_over, continuing, go_on, taught_on, reception_over, transmission_over, Call, discovery, join, send, poll, receive, timeout, scan, association, transmission, reception, elapsed, take_leave, take_status, made, answer}
 use Rattle.node.specs.declared.State.{State}
 use Rattle.node.specs.declared.Answer.{Answer}
-use Rattle.node.specs.declared.ScanOutcome.{ScanOutcome}
-use Rattle.node.specs.declared.ReceptionOutcome.{ReceptionOutcome}
 use Rattle.two_nodes.specs.Statement.{shown, beacon_of, AlikeScan, failures, within, above-27, above-16, AlikeCall, same, scans, NoneUnderWay, Names, Allowed}
 use Rattle.two_nodes.proofs.Sight.{shows, choice_in}
 use Rattle.two_nodes.proofs.States.{Sight, sight, live_in, live, Tidy, Ours, tried_seen, next_seen, parent_in, tried-in, next-in, joins, written_in, written-sight, written-tidy, written_ours, chosen-sight, chosen-tidy, chosen-ours, heard-tidy, heard-list, learnt_in, sender, taught-sight, taught-tidy, taught-ours, bad_in, bad-is}
 use Rattle.two_nodes.proofs.Decisions.{never, OnPurpose, OnSend, OnScan, OnPhase, On, OnD, ending-on, try_next-on, answered_by-on, request_sent-on, rejoin_started-on, join_started-on, associated-on, answered-unseen, request-unseen}
 use Rattle.two_nodes.proofs.Frames.{Plain, plain_of, nlme_after, says, processed-is}
+use Rattle.discovery.specs.declared.mlme.MacError.{MacError}
+use Rattle.join.specs.declared.association.AssociationResponse.{AssociationResponse}
+use Rattle.discovery.specs.declared.mlme.PanDescriptorList.{PanDescriptorList}
+use Rattle.operation.specs.declared.Refusal.{Refusal}
+use Rattle.operation.specs.declared.Refusal.TheVariants.{OperationUnderWay, NotAwaited, TooManyDescriptors, TooManyShortAddressed, BadState}
 
 -- THE RELATION
 
@@ -125,7 +127,7 @@ module _ (n : ℕ) where
         shown-same = λ i. record { control = r.alike.control-same i; parent = parent_address (alike-parent n r.alike i); reset = p i; note = q i; step = u i; polls = v i };
       }
 
-  pub refuse-good : (k : ℕ) {s t : State} → Near n s t → Good n (refuse k s) (refuse k t)
+  pub refuse-good : (k : Refusal) {s t : State} → Near n s t → Good n (refuse k s) (refuse k t)
   unfolding refuse
   refuse-good k r = good r refl refl refl refl
 
@@ -208,10 +210,10 @@ module _ (n : ℕ) (some : n ≡ 0 → ⊥) (permit : Bool) (i : CapabilityInfor
         ours-2 = chosen-ours permit n some i t;
       }
 
-  abbrev first_tried : ℕ → (Neighbor → Control → Decision) → State → Answer
+  abbrev first_tried : ℕ → ((Option NwkNeighbor) → Control → Decision) → State → Answer
   first_tried k decide x = let y = with_chosen permit k i x in deciding y (decide (next y) x.control)
 
-  chosen-good : (k : ℕ) → k ≡ n → (decide : Neighbor → Control → Decision) → ((x : Neighbor) → OnD n true (decide x s.control)) → Good n (first_tried k decide s) (first_tried k decide t)
+  chosen-good : (k : ℕ) → k ≡ n → (decide : Option NwkNeighbor → Control → Decision) → ((x : Option NwkNeighbor) → OnD n true (decide x s.control)) → Good n (first_tried k decide s) (first_tried k decide t)
   chosen-good k e decide on =
       subst⁻¹ (λ (k : ℕ). Good n (first_tried k decide s) (first_tried k decide t)) e
       (finish-good n some chosen-alike chosen-tries (on (next (with_chosen permit n i s))) (ap₂ decide (alike_next n chosen-alike chosen-tries) a.control-same))
@@ -234,8 +236,8 @@ module _ (n : ℕ) (some : n ≡ 0 → ⊥) {s t : State} (a : Alike n s t) wher
 
 -- a rejoin's send or poll is over: before the scan the candidates do not matter
 module _ (n : ℕ) (some : n ≡ 0 → ⊥) {s t : State} (a : Alike n s t) (c : s.control.operation.scan_requested ≡ true → Tries n s t) where
-  try-good : (decide : Neighbor → Neighbor → Control → Decision) → ((x : Neighbor) → OnD n s.control.operation.scan_requested (decide (parent s) x s.control))
-      → (s.control.operation.scan_requested ≡ false → (x y : Neighbor) → decide (parent s) x s.control ≡ decide (parent s) y s.control)
+  try-good : (decide : Option NwkNeighbor → Option NwkNeighbor → Control → Decision) → ((x : Option NwkNeighbor) → OnD n s.control.operation.scan_requested (decide (parent s) x s.control))
+      → (s.control.operation.scan_requested ≡ false → (x y : Option NwkNeighbor) → decide (parent s) x s.control ≡ decide (parent s) y s.control)
       → Good n (deciding s (decide (parent s) (next s) s.control)) (deciding t (decide (parent t) (next t) t.control))
   try-good decide on unseen =
       split s.control.operation.scan_requested
@@ -284,11 +286,11 @@ module _ (n : ℕ) (f : ReceivedFrame) {s t : State} (a : Alike n s t) where
 
 -- the outcome of a poll
 module _ (n : ℕ) (some : n ≡ 0 → ⊥) {s t : State} (a : Alike n s t) (c : s.control.operation.scan_requested ≡ true → Tries n s t) where
-  reception-good : (o : ReceptionOutcome) (u : Purpose) → OnPurpose n u s.control.operation.extended_pan_id.0 → Plain o → Good n (reception_over o u s) (reception_over o u t)
+  reception-good : (o : Result (Option ReceivedFrame) MacError) (u : Purpose) → OnPurpose n u s.control.operation.extended_pan_id.0 → Plain o → Good n (reception_over o u s) (reception_over o u t)
   unfolding reception_over
-  reception-good ReceptionOutcome.NoData u e w = go_on-good n some a c u _ e
-  reception-good ReceptionOutcome.ReceptionFailed u e w = go_on-good n some a c u _ e
-  reception-good (ReceptionOutcome.Received f) u e w =
+  reception-good (Ok None) u e w = go_on-good n some a c u _ e
+  reception-good (Err x) u e w = go_on-good n some a c u _ e
+  reception-good (Ok (Some f)) u e w =
       let q : with_nlme (nlme_after f s.control.nlme) s.control ≡ with_nlme (nlme_after f t.control.nlme) t.control =
       ap (λ (x : Control). with_nlme (nlme_after f x.nlme) x) a.control-same in
       let g = go_on-good n some (alike-control n (taught-alike n f a) q) (λ h. tries-control _ _ (taught-tries n f a (c h))) u (says f) e in
@@ -322,37 +324,26 @@ module _ (n : ℕ) {s t : State} (a : Alike n s t) where
       (chosen-good n some false s.control.nlme.nib.capability_information a s.control.operation.extended_pan_id.0 e (try_next NlmeJoinStatus.NotPermitted) (try_next-on n s.control e _))
 
 module _ (n : ℕ) (some : n ≡ 0 → ⊥) {s t : State} (r : Near n s t) (u : ScanFor) (e : OnScan n u s.control.operation.extended_pan_id.0) where
-  -- what is done with a list
-  abbrev listed : ScanOutcome → State → Answer
-  listed o x = cond (ltb 27 o.list.count) (refuse 3 x) (cond (ltb 16 (short_addressed (descriptors_of o.list))) (refuse 4 x) (scan_heard u (with_scan (descriptors_of o.list) x)))
-
-  -- a failure on both sides, or a list on both
-  both : (x y : ScanOutcome) → x.failed ≡ y.failed → (x.failed ≡ false → Good n (listed x s) (listed y t)) → Good n (scan_over x u s) (scan_over y u t)
-  unfolding scan_over
-  both x y q f = both-cases (Good n) x.failed y.failed q (λ _. scan_failed-good n r.alike u) f
-
-  scan_over-good : (x y : ScanOutcome) → AlikeScan n x y → Good n (scan_over x u s) (scan_over y u t)
-  unfolding with_scan
-  scan_over-good x y (failures f g) = both x y (f ∙ sym g) (λ k. never x.failed k f)
-  scan_over-good x y (above-27 f g a b) = both x y (f ∙ sym g) (λ _. rw (lt-ltb 27 x.list.count a, lt-ltb 27 y.list.count b) (refuse-good n 3 r))
-  scan_over-good x y (above-16 f g a b c d) =
-      both x y (f ∙ sym g)
-      (λ _. rw (le-ltb 27 x.list.count a, le-ltb 27 y.list.count b, lt-ltb 16 (short_addressed (descriptors_of x.list)) c, lt-ltb 16 (short_addressed (descriptors_of y.list)) d)
-      (refuse-good n 4 r))
-  scan_over-good x y (within f g a b c d h) =
-      both x y (f ∙ sym g)
-      (λ _. rw (le-ltb 27 x.list.count a, le-ltb 27 y.list.count b, le-ltb 16 (short_addressed (descriptors_of x.list)) c, le-ltb 16 (short_addressed (descriptors_of y.list)) d)
-      (scan_heard-good n (heard-alike n r.alike (descriptors_of x.list) (descriptors_of y.list) c d h) some u e))
+  scan_over-good : (x y : Result PanDescriptorList MacError) → AlikeScan n x y → Good n (scan_over x u s) (scan_over y u t)
+  unfolding scan_over with_scan
+  scan_over-good x y (failures e f) = scan_failed-good n r.alike u
+  scan_over-good x y (above-27 {l} {m} a b) = rw (lt-ltb 27 l.count a, lt-ltb 27 m.count b) (refuse-good n TooManyDescriptors r)
+  scan_over-good x y (above-16 {l} {m} a b c d) =
+      rw (le-ltb 27 l.count a, le-ltb 27 m.count b, lt-ltb 16 (short_addressed (descriptors_of l)) c, lt-ltb 16 (short_addressed (descriptors_of m)) d)
+      (refuse-good n TooManyShortAddressed r)
+  scan_over-good x y (within {l} {m} a b c d h) =
+      rw (le-ltb 27 l.count a, le-ltb 27 m.count b, le-ltb 16 (short_addressed (descriptors_of l)) c, le-ltb 16 (short_addressed (descriptors_of m)) d)
+      (scan_heard-good n (heard-alike n r.alike (descriptors_of l) (descriptors_of m) c d h) some u e)
 
 -- EVERY CALL
 
-scan-self : (n : ℕ) (o : ScanOutcome) → AlikeScan n o o
-scan-self n o =
-    split o.failed (λ f. failures f f)
-    (λ f. split (ltb 27 o.list.count) (λ h. above-27 f f (ltb-true 27 _ h) (ltb-true 27 _ h))
-    (λ h. split (ltb 16 (short_addressed (descriptors_of o.list)))
-    (λ i. above-16 f f (ltb-false 27 _ h) (ltb-false 27 _ h) (ltb-true 16 _ i) (ltb-true 16 _ i))
-    (λ i. within f f (ltb-false 27 _ h) (ltb-false 27 _ h) (ltb-false 16 _ i) (ltb-false 16 _ i) refl)))
+scan-self : (n : ℕ) (o : Result PanDescriptorList MacError) → AlikeScan n o o
+scan-self n (Err e) = failures e e
+scan-self n (Ok l) =
+    split (ltb 27 l.count) (λ h. above-27 (ltb-true 27 _ h) (ltb-true 27 _ h))
+    (λ h. split (ltb 16 (short_addressed (descriptors_of l)))
+    (λ i. above-16 (ltb-false 27 _ h) (ltb-false 27 _ h) (ltb-true 16 _ i) (ltb-true 16 _ i))
+    (λ i. within (ltb-false 27 _ h) (ltb-false 27 _ h) (ltb-false 16 _ i) (ltb-false 16 _ i) refl))
 
 idle-is : (p : Phase) → is_idle p ≡ true → p ≡ Phase.Idle
 idle-is Phase.Idle h = refl
@@ -365,10 +356,10 @@ module _ (n : ℕ) (some : n ≡ 0 → ⊥) {s t : State} (r : Near n s t) where
   start-good : {a b : Answer} → (NoneUnderWay s → Good n a b) → Good n (start a s) (start b t)
   start-good f =
       both-cases (Good n) (is_idle s.control.operation.phase) (is_idle t.control.operation.phase) (ap (λ (c : Control). is_idle c.operation.phase) r.alike.control-same)
-      (λ h. f (idle-is s.control.operation.phase h)) (λ _. refuse-good n 1 r)
+      (λ h. f (idle-is s.control.operation.phase h)) (λ _. refuse-good n OperationUnderWay r)
 
   -- outcomes, in the phase that both are in
-  outcome-same : {A : Type 0} (kind : Phase → For A) (f g : A → State → Answer)
+  outcome-same : {A : Type 0} (kind : Phase → Option A) (f g : A → State → Answer)
       → Good n (outcome (kind s.control.operation.phase) f s) (outcome (kind s.control.operation.phase) g t)
       → Good n (outcome (kind s.control.operation.phase) f s) (outcome (kind t.control.operation.phase) g t)
   outcome-same kind f g h =
@@ -380,42 +371,42 @@ module _ (n : ℕ) (some : n ≡ 0 → ⊥) {s t : State} (r : Near n s t) where
   abbrev after_scan : Bool
   after_scan = s.control.operation.scan_requested
 
-  scan_good : (x y : ScanOutcome) → AlikeScan n x y → (p : Phase) → OnPhase n p id → Good n (outcome (scan_for p) (scan_over x) s) (outcome (scan_for p) (scan_over y) t)
+  scan_good : (x y : Result PanDescriptorList MacError) → AlikeScan n x y → (p : Phase) → OnPhase n p id → Good n (outcome (scan_for p) (scan_over x) s) (outcome (scan_for p) (scan_over y) t)
   unfolding outcome
   scan_good x y l (Phase.Scan u) e = scan_over-good n some r u e x y l
-  scan_good x y l Phase.Idle e = refuse-good n 2 r
-  scan_good x y l Phase.Association e = refuse-good n 2 r
-  scan_good x y l (Phase.Transmission u) e = refuse-good n 2 r
-  scan_good x y l (Phase.Reception u) e = refuse-good n 2 r
+  scan_good x y l Phase.Idle e = refuse-good n NotAwaited r
+  scan_good x y l Phase.Association e = refuse-good n NotAwaited r
+  scan_good x y l (Phase.Transmission u) e = refuse-good n NotAwaited r
+  scan_good x y l (Phase.Reception u) e = refuse-good n NotAwaited r
 
-  association-good : (o : AssociationOutcome) (p : Phase) → (live_in p after_scan ≡ true → Tries n s t)
+  association-good : (o : Result AssociationResponse MacError) (p : Phase) → (live_in p after_scan ≡ true → Tries n s t)
       → Good n (outcome (association_for p) (association_over o) s) (outcome (association_for p) (association_over o) t)
   unfolding outcome
   association-good o Phase.Association k =
       let a = r.alike in
       finish-good n some a (k refl) (associated-on n o (tried s) (next s) s.control) (λ i. associated o (alike-tried n a (k refl) i) (alike_next n a (k refl) i) (a.control-same i))
-  association-good o Phase.Idle k = refuse-good n 2 r
-  association-good o (Phase.Scan u) k = refuse-good n 2 r
-  association-good o (Phase.Transmission u) k = refuse-good n 2 r
-  association-good o (Phase.Reception u) k = refuse-good n 2 r
+  association-good o Phase.Idle k = refuse-good n NotAwaited r
+  association-good o (Phase.Scan u) k = refuse-good n NotAwaited r
+  association-good o (Phase.Transmission u) k = refuse-good n NotAwaited r
+  association-good o (Phase.Reception u) k = refuse-good n NotAwaited r
 
   sent-good : (ok : Bool) (p : Phase) → (live_in p after_scan ≡ true → Tries n s t) → OnPhase n p id
       → Good n (outcome (transmission_for p) (transmission_over ok) s) (outcome (transmission_for p) (transmission_over ok) t)
   unfolding outcome
   sent-good ok (Phase.Transmission u) k e = transmission-good n some r.alike k ok u e
-  sent-good ok Phase.Idle k e = refuse-good n 2 r
-  sent-good ok (Phase.Scan u) k e = refuse-good n 2 r
-  sent-good ok Phase.Association k e = refuse-good n 2 r
-  sent-good ok (Phase.Reception u) k e = refuse-good n 2 r
+  sent-good ok Phase.Idle k e = refuse-good n NotAwaited r
+  sent-good ok (Phase.Scan u) k e = refuse-good n NotAwaited r
+  sent-good ok Phase.Association k e = refuse-good n NotAwaited r
+  sent-good ok (Phase.Reception u) k e = refuse-good n NotAwaited r
 
-  received-good : (o : ReceptionOutcome) (p : Phase) → (live_in p after_scan ≡ true → Tries n s t) → OnPhase n p id → ((u : Purpose) → p ≡ Phase.Reception u → Plain o)
+  received-good : (o : Result (Option ReceivedFrame) MacError) (p : Phase) → (live_in p after_scan ≡ true → Tries n s t) → OnPhase n p id → ((u : Purpose) → p ≡ Phase.Reception u → Plain o)
       → Good n (outcome (reception_for p) (reception_over o) s) (outcome (reception_for p) (reception_over o) t)
   unfolding outcome
   received-good o (Phase.Reception u) k e w = reception-good n some r.alike k o u e (w u refl)
-  received-good o Phase.Idle k e w = refuse-good n 2 r
-  received-good o (Phase.Scan u) k e w = refuse-good n 2 r
-  received-good o Phase.Association k e w = refuse-good n 2 r
-  received-good o (Phase.Transmission u) k e w = refuse-good n 2 r
+  received-good o Phase.Idle k e w = refuse-good n NotAwaited r
+  received-good o (Phase.Scan u) k e w = refuse-good n NotAwaited r
+  received-good o Phase.Association k e w = refuse-good n NotAwaited r
+  received-good o (Phase.Transmission u) k e w = refuse-good n NotAwaited r
 
   same_good : (c : Call) → Allowed n s c → Good n (made s c) (made t c)
   same_good (discovery x) w = start-good (λ _. kept-good n r.alike refl refl tt (never false refl) (λ i. asking (Phase.Scan ScanFor.Discovery) (RadioRequest.Scan x) (r.alike.control-same i)))
@@ -440,4 +431,4 @@ module _ (n : ℕ) (some : n ≡ 0 → ⊥) {s t : State} (r : Near n s t) where
 
   pub step-good : {c d : Call} → AlikeCall n c d → Allowed n s c → Good n (answer s c) (answer t d)
   unfolding answer
-  step-good l w = both-cases (Good n) (bad s) (bad t) (near-bad n r) (λ _. refuse-good n 5 r) (λ _. call-good l w)
+  step-good l w = both-cases (Good n) (bad s) (bad t) (near-bad n r) (λ _. refuse-good n BadState r) (λ _. call-good l w)

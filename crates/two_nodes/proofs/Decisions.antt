@@ -1,6 +1,7 @@
 -- What the theorem has to know of decisions. Assumes nothing.
 -- A rejoin under way stays one of network n. No operation but a discovery, a join or a rejoin comes to be under way.
 -- A decision that clears the ids of all entries leaves no candidate to be tried. Before a rejoin's scan no candidate is looked at or changed.
+use Rattle.std.specs.Prelude.{Result, Ok, Err, Option, Some, None}
 use Prim.Native.Nat.{ℕ}
 use mathlib.Core.Path.{◌≡◌, refl, sym, ◌∙◌}
 use mathlib.Core.Bool.{Bool, true, false, cond, false≢true}
@@ -8,11 +9,9 @@ use lib.Dec.{eqb, leb}
 use Rattle.lists.proofs.Conditions.{pick-false, by_cases, both-cases}
 use Rattle.nib.specs.declared.CapabilityInformation.{CapabilityInformation}
 use Rattle.nib.specs.declared.NwkNeighbor.{NwkNeighbor}
-use Rattle.nib.specs.declared.Neighbor.{Neighbor}
 use Rattle.management.specs.declared.NlmeJoinStatus.{NlmeJoinStatus}
 use Rattle.management.specs.declared.NlmeJoinRequest.{NlmeJoinRequest}
 use Rattle.management.specs.declared.RejoinResponse.{RejoinResponse}
-use Rattle.management.specs.declared.RejoinResponseSlot.{RejoinResponseSlot}
 use Rattle.operation.specs.Operation.{ending, with_polls_left, polled_or, polling, poll_on}
 use Rattle.operation.specs.declared.Purpose.{Purpose}
 use Rattle.operation.specs.declared.ScanFor.{ScanFor}
@@ -26,9 +25,9 @@ use Rattle.operation.specs.declared.Decision.{Decision}
 use Rattle.operation.specs.declared.Polling.{Polling}
 use Rattle.join.specs.Join.{failing, reset_negotiation, associating, join_started, failed_status, joined_by, candidate_failed, succeeded, associated}
 use Rattle.join.specs.declared.association.AssociationResponse.{AssociationResponse}
-use Rattle.join.specs.declared.association.AssociationOutcome.{AssociationOutcome}
 use Rattle.join.specs.Rejoin.{invalid, resolved, trying, scan_or_end, try_remembered, begun, rejoin_started, adopting, try_candidate, try_next, try_failed, rejoined, responded, answered_by, request_sent}
 use Rattle.two_nodes.proofs.States.{live, joins}
+use Rattle.discovery.specs.declared.mlme.MacError.{MacError}
 
 pub never : {A : Type 0} (b : Bool) → b ≡ false → b ≡ true → A
 never true p q = absurd (false≢true (sym p))
@@ -92,7 +91,7 @@ module _ (n : ℕ) where
 
   -- the rejoin
   module _ (c : Control) (e : c.operation.extended_pan_id.0 ≡ n) where
-    trying-on : {b : Bool} (m : Move) → joins m ≡ false → (b ≡ false → m ≡ Move.Stay) → (b ≡ false → c.operation.scan_requested ≡ false) → (note : Note) (p : NwkNeighbor)
+    trying-on : {b : Bool} (m : Move) → joins m ≡ false → (b ≡ false → m ≡ Move.Stay) → (b ≡ false → c.operation.scan_requested ≡ false) → (note : Option Note) (p : NwkNeighbor)
         → OnD n b (trying m note p c)
     unfolding trying
     trying-on m h stay q note p =
@@ -104,10 +103,10 @@ module _ (n : ℕ) where
         either (leb c.operation.scan.past c.operation.scan.first) (failing-on st c)
         (record { kept = e; ends = λ h. refl; calm = λ _. record { stays = refl; uncleared = refl; dead = refl } })
 
-    try_remembered-on : c.operation.scan_requested ≡ false → (p : Neighbor) → OnD n false (try_remembered p c)
+    try_remembered-on : c.operation.scan_requested ≡ false → (p : Option NwkNeighbor) → OnD n false (try_remembered p c)
     unfolding try_remembered
-    try_remembered-on q Neighbor.Absent = scan_or_end-on _
-    try_remembered-on q (Neighbor.Entry p) = trying-on Move.Stay refl (λ _. refl) (λ _. q) _ p
+    try_remembered-on q None = scan_or_end-on _
+    try_remembered-on q (Some p) = trying-on Move.Stay refl (λ _. refl) (λ _. q) _ p
 
     rejoined-on : {b : Bool} (r : RejoinResponse) → OnD n b (rejoined r c)
     unfolding rejoined
@@ -118,35 +117,35 @@ module _ (n : ℕ) where
   try_candidate-on c e x = trying-on (adopting x c) e Move.AdoptNext refl (λ f. never true f refl) (λ f. never true f refl) _ x
 
   module _ (c : Control) (e : c.operation.extended_pan_id.0 ≡ n) where
-    pub try_next-on : (st : NlmeJoinStatus) (x : Neighbor) → OnD n true (try_next st x c)
+    pub try_next-on : (st : NlmeJoinStatus) (x : Option NwkNeighbor) → OnD n true (try_next st x c)
     unfolding try_next
-    try_next-on st Neighbor.Absent = failing-on st c
-    try_next-on st (Neighbor.Entry x) = try_candidate-on c e x
+    try_next-on st None = failing-on st c
+    try_next-on st (Some x) = try_candidate-on c e x
 
-    try_failed-on : (st : NlmeJoinStatus) (x : Neighbor) → OnD n c.operation.scan_requested (try_failed st x c)
+    try_failed-on : (st : NlmeJoinStatus) (x : Option NwkNeighbor) → OnD n c.operation.scan_requested (try_failed st x c)
     unfolding try_failed
     try_failed-on st x = by_cases (OnD n c.operation.scan_requested) c.operation.scan_requested (after-scan c.operation.scan_requested (try_next-on st x)) (scan_or_end-on c e st)
 
   module _ (c : Control) (e : c.operation.extended_pan_id.0 ≡ n) where
-    polls-on : (p x : Neighbor) → OnD n c.operation.scan_requested (poll_on Purpose.RejoinResponse p (try_failed NlmeJoinStatus.MacError x) c)
+    polls-on : (p x : Option NwkNeighbor) → OnD n c.operation.scan_requested (poll_on Purpose.RejoinResponse p (try_failed NlmeJoinStatus.MacError x) c)
     unfolding polling poll_on
-    polls-on Neighbor.Absent x = try_failed-on (with_polls_left 0 c) e _ x
-    polls-on (Neighbor.Entry p) x =
+    polls-on None x = try_failed-on (with_polls_left 0 c) e _ x
+    polls-on (Some p) x =
         by_cases (λ (y : Polling). OnD n c.operation.scan_requested (polled_or Purpose.RejoinResponse (try_failed NlmeJoinStatus.MacError x) y.parent y.control))
         (eqb c.operation.polls_left 0) (λ _. try_failed-on c e _ x)
         (record { kept = e; ends = λ h. absurd (false≢true h); calm = λ f. record { stays = refl; uncleared = refl; dead = f } })
 
-    pub answered_by-on : (a : RejoinResponseSlot) (p x : Neighbor) → OnD n c.operation.scan_requested (answered_by a p x c)
+    pub answered_by-on : (a : Option RejoinResponse) (p x : Option NwkNeighbor) → OnD n c.operation.scan_requested (answered_by a p x c)
     unfolding answered_by responded
-    answered_by-on (RejoinResponseSlot.HasRejoinResponse r) p x = either (eqb r.status 0) (rejoined-on _ e r) (try_failed-on _ e _ x)
-    answered_by-on RejoinResponseSlot.NoRejoinResponse p x = polls-on p x
+    answered_by-on (Some r) p x = either (eqb r.status 0) (rejoined-on _ e r) (try_failed-on _ e _ x)
+    answered_by-on None p x = polls-on p x
 
-    pub request_sent-on : (ok : Bool) (p x : Neighbor) → OnD n c.operation.scan_requested (request_sent ok p x c)
+    pub request_sent-on : (ok : Bool) (p x : Option NwkNeighbor) → OnD n c.operation.scan_requested (request_sent ok p x c)
     unfolding request_sent
     request_sent-on true p x = answered_by-on c.nlme.signals.rejoin_response p x
     request_sent-on false p x = try_failed-on c e _ x
 
-  pub rejoin_started-on : (r : NlmeJoinRequest) (p : Neighbor) (c : Control) → (resolved r c.nlme).0 ≡ n → OnD n false (rejoin_started r p c)
+  pub rejoin_started-on : (r : NlmeJoinRequest) (p : Option NwkNeighbor) (c : Control) → (resolved r c.nlme).0 ≡ n → OnD n false (rejoin_started r p c)
   unfolding rejoin_started
   rejoin_started-on r p c e = either (invalid r c.nlme) (failing-on _ c) (try_remembered-on (begun r c) e refl p)
 
@@ -155,46 +154,46 @@ module _ (n : ℕ) where
   unfolding associating
   associating-on x c = record { kept = tt; ends = λ h. absurd (false≢true h); calm = λ f. never true f refl }
 
-  pub join_started-on : (i : CapabilityInformation) (x : Neighbor) (c : Control) → OnD n true (join_started i x c)
+  pub join_started-on : (i : CapabilityInformation) (x : Option NwkNeighbor) (c : Control) → OnD n true (join_started i x c)
   unfolding join_started
-  join_started-on i Neighbor.Absent c = failing-on _ (reset_negotiation c)
-  join_started-on i (Neighbor.Entry x) c = associating-on x _
+  join_started-on i None c = failing-on _ (reset_negotiation c)
+  join_started-on i (Some x) c = associating-on x _
 
-  candidate_failed-on : (st : NlmeJoinStatus) (x : Neighbor) (c : Control) → OnD n true (candidate_failed st x c)
+  candidate_failed-on : (st : NlmeJoinStatus) (x : Option NwkNeighbor) (c : Control) → OnD n true (candidate_failed st x c)
   unfolding candidate_failed associating
-  candidate_failed-on st Neighbor.Absent c = record { kept = tt; ends = λ h. refl; calm = λ f. never true f refl }
-  candidate_failed-on st (Neighbor.Entry x) c = record { kept = tt; ends = λ h. absurd (false≢true h); calm = λ f. never true f refl }
+  candidate_failed-on st None c = record { kept = tt; ends = λ h. refl; calm = λ f. never true f refl }
+  candidate_failed-on st (Some x) c = record { kept = tt; ends = λ h. absurd (false≢true h); calm = λ f. never true f refl }
 
-  succeeded-on : (r : AssociationResponse) (t x : Neighbor) (c : Control) → OnD n true (succeeded r t x c)
+  succeeded-on : (r : AssociationResponse) (t x : Option NwkNeighbor) (c : Control) → OnD n true (succeeded r t x c)
   unfolding succeeded joined_by
-  succeeded-on r Neighbor.Absent x c = candidate_failed-on _ x c
-  succeeded-on r (Neighbor.Entry t) x c = record { kept = tt; ends = λ h. refl; calm = λ f. never true f refl }
+  succeeded-on r None x c = candidate_failed-on _ x c
+  succeeded-on r (Some t) x c = record { kept = tt; ends = λ h. refl; calm = λ f. never true f refl }
 
-  pub associated-on : (o : AssociationOutcome) (t x : Neighbor) (c : Control) → OnD n true (associated o t x c)
+  pub associated-on : (o : Result AssociationResponse MacError) (t x : Option NwkNeighbor) (c : Control) → OnD n true (associated o t x c)
   unfolding associated
-  associated-on AssociationOutcome.AssociationFailed t x c = candidate_failed-on _ x c
-  associated-on (AssociationOutcome.Associated r) t x c = either (eqb r.status 0) (succeeded-on r t x c) (candidate_failed-on (failed_status r.status) x c)
+  associated-on (Err e) t x c = candidate_failed-on _ x c
+  associated-on (Ok r) t x c = either (eqb r.status 0) (succeeded-on r t x c) (candidate_failed-on (failed_status r.status) x c)
 
 -- before the scan the next candidate is not looked at
-module _ (x y : Neighbor) where
+module _ (x y : Option NwkNeighbor) where
   failed-unseen : (st : NlmeJoinStatus) (c : Control) → c.operation.scan_requested ≡ false → try_failed st x c ≡ try_failed st y c
   unfolding try_failed
   failed-unseen st c f = sym (pick-false c.operation.scan_requested _ _ f) ∙ pick-false c.operation.scan_requested _ _ f
 
   module _ (c : Control) (f : c.operation.scan_requested ≡ false) where
-    polls-unseen : (p : Neighbor) → poll_on Purpose.RejoinResponse p (try_failed NlmeJoinStatus.MacError x) c ≡ poll_on Purpose.RejoinResponse p (try_failed NlmeJoinStatus.MacError y) c
+    polls-unseen : (p : Option NwkNeighbor) → poll_on Purpose.RejoinResponse p (try_failed NlmeJoinStatus.MacError x) c ≡ poll_on Purpose.RejoinResponse p (try_failed NlmeJoinStatus.MacError y) c
     unfolding polling poll_on
-    polls-unseen Neighbor.Absent = failed-unseen _ (with_polls_left 0 c) f
-    polls-unseen (Neighbor.Entry p) =
+    polls-unseen None = failed-unseen _ (with_polls_left 0 c) f
+    polls-unseen (Some p) =
         by_cases (λ (z : Polling). polled_or Purpose.RejoinResponse (try_failed NlmeJoinStatus.MacError x) z.parent z.control ≡ polled_or Purpose.RejoinResponse (try_failed NlmeJoinStatus.MacError y) z.parent z.control)
         (eqb c.operation.polls_left 0) (λ _. failed-unseen _ c f) refl
 
-    pub answered-unseen : (a : RejoinResponseSlot) (p : Neighbor) → answered_by a p x c ≡ answered_by a p y c
+    pub answered-unseen : (a : Option RejoinResponse) (p : Option NwkNeighbor) → answered_by a p x c ≡ answered_by a p y c
     unfolding answered_by responded
-    answered-unseen (RejoinResponseSlot.HasRejoinResponse r) p = both-cases ◌≡◌ (eqb r.status 0) _ refl (λ _. refl) (λ _. failed-unseen _ _ f)
-    answered-unseen RejoinResponseSlot.NoRejoinResponse p = polls-unseen p
+    answered-unseen (Some r) p = both-cases ◌≡◌ (eqb r.status 0) _ refl (λ _. refl) (λ _. failed-unseen _ _ f)
+    answered-unseen None p = polls-unseen p
 
-    pub request-unseen : (ok : Bool) (p : Neighbor) → request_sent ok p x c ≡ request_sent ok p y c
+    pub request-unseen : (ok : Bool) (p : Option NwkNeighbor) → request_sent ok p x c ≡ request_sent ok p y c
     unfolding request_sent
     request-unseen true p = answered-unseen c.nlme.signals.rejoin_response p
     request-unseen false p = failed-unseen _ c f

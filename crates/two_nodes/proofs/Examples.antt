@@ -1,4 +1,5 @@
 -- Runs that antt computes: the theorem at some lists, and why each of its premises is there.
+use Rattle.std.specs.Prelude.{Result, Ok, Err, Option, Some, None}
 use Prim.Native.Nat.{ℕ}
 use mathlib.Core.Path.{◌≡◌, refl, ap}
 use mathlib.Core.Bool.{Bool, true, false, false≢true}
@@ -6,17 +7,11 @@ use mathlib.Core.List.{List, [], ◌∷◌, map, flat_map}
 use native.Mathlib.Omega.{arith}
 use lib.ListN.{length, replicate}
 use Rattle.nib.specs.Neighbors.{table_of}
-use Rattle.nib.specs.declared.OptionalIeee.{OptionalIeee}
-use Rattle.nib.specs.declared.OptionalIeee.TheVariants.{NoIeee, Ieee}
 use Rattle.discovery.specs.declared.mlme.Address.TheVariants.{Short}
 use Rattle.discovery.specs.declared.mlme.PanDescriptor.{PanDescriptor}
 use Rattle.management.specs.declared.RejoinNetwork.{RejoinNetwork}
 use Rattle.management.specs.declared.RejoinNetwork.TheVariants.{Association, NwkRejoin}
 use Rattle.management.specs.declared.ScanRange.{ScanRange}
-use Rattle.management.specs.declared.RejoinResponseSlot.TheVariants.{NoRejoinResponse}
-use Rattle.management.specs.declared.TimeoutResponseSlot.TheVariants.{NoTimeoutResponse}
-use Rattle.management.specs.declared.LeaveIndicationSlot.TheVariants.{NoLeaveIndication}
-use Rattle.management.specs.declared.StatusIndicationSlot.TheVariants.{NoStatusIndication}
 use Rattle.management.specs.declared.NlmeJoinStatus.TheVariants.{Success, NotPermitted, PanAtCapacity, MacError}
 use Rattle.management.specs.declared.frame.Source.{Source}
 use Rattle.management.specs.declared.frame.ReceivedFrame.TheVariants.{Data, RejoinResponseCommand, LeaveCommand}
@@ -45,11 +40,12 @@ use Rattle.nlme.specs.Received.{taught_by, taught, rejoin_responded, neighbor_le
 use Rattle.nlme.specs.Nlme.{negotiation_reset, command_header}
 use Rattle.nib.specs.Identifiers.{link_cost}
 use Rattle.node.specs.declared.State.{State}
-use Rattle.node.specs.declared.ScanOutcome.{ScanOutcome}
-use Rattle.node.specs.declared.ReceptionOutcome.{ReceptionOutcome}
-use Rattle.node.specs.declared.ReceptionOutcome.TheVariants.{Received}
 use Rattle.two_nodes.specs.Statement.{Shown, shown, run, AlikeScan, within, same, scans, none, more}
 use Rattle.two_nodes.proofs.TwoNodes.{two-nodes}
+use Rattle.nib.specs.declared.IeeeAddress.{IeeeAddress}
+use Rattle.discovery.specs.declared.mlme.PanDescriptorList.{PanDescriptorList}
+use Rattle.discovery.specs.declared.mlme.MacError as radio
+use Rattle.operation.specs.declared.Refusal.TheVariants.{OperationUnderWay, TooManyDescriptors, TooManyShortAddressed}
 
 -- NODES, BEACONS AND CALLS
 
@@ -79,10 +75,10 @@ node address network awaited =
           pending_timeout_request = 0xff;
           parent_timer = record { remaining_ms = 0 };
           signals = record {
-            rejoin_response = NoRejoinResponse;
-            timeout_response = NoTimeoutResponse;
-            leave_indication = NoLeaveIndication;
-            nwk_status_indication = NoStatusIndication;
+            rejoin_response = None;
+            timeout_response = None;
+            leave_indication = None;
+            nwk_status_indication = None;
           };
           transmit_failures = record { pairs = replicate 16 (record { address = record { 0 = 0 }; count = 0 }); count = 0 };
         };
@@ -112,8 +108,8 @@ beacon address network channel id =
       zigbee_beacon = record { stack_profile = record { 0 = 0x8c22 }; extended_pan_id = record { 0 = network }; update_id = id };
     }
 
-abbrev scan_of : List PanDescriptor → ScanOutcome
-scan_of ds = record { failed = false; list = record { descriptors = ds; count = length ds } }
+abbrev scan_of : List PanDescriptor → Result PanDescriptorList radio.MacError
+scan_of ds = Ok (record { descriptors = ds; count = length ds })
 
 abbrev hears : List PanDescriptor → Call
 hears ds = scan (scan_of ds)
@@ -134,22 +130,22 @@ abbrev join_of : RejoinNetwork → ℕ → Call
 join_of kind network = join_as 0x80 kind network
 
 -- a frame from a short address, with or without its IEEE address
-abbrev from : ℕ → OptionalIeee → Source
+abbrev from : ℕ → Option IeeeAddress → Source
 from address ieee = record { address = record { 0 = address }; ieee = ieee }
 
 -- a leave command to a short address: the notification of a neighbour that goes, and a request from the broadcast address that asks for a rejoin
 abbrev leave : Source → ℕ → Bool → Call
-leave source to request = reception (Received (LeaveCommand source (record { 0 = to }) (record { request = request; rejoin = request; remove_children = false })))
+leave source to request = reception (Ok (Some (LeaveCommand source (record { 0 = to }) (record { request = request; rejoin = request; remove_children = false }))))
 
 abbrev leaves : ℕ → Call
-leaves address = leave (from address NoIeee) 0xffff false
+leaves address = leave (from address None) 0xffff false
 
 abbrev asks_to_leave : Call
-asks_to_leave = leave (from 0xffff (Ieee (record { 0 = 99 }))) 0x1234 true
+asks_to_leave = leave (from 0xffff (Some (record { 0 = 99 }))) 0x1234 true
 
 -- the response to a rejoin request: with an address for the node, and of a parent that is at capacity
 abbrev responds : ℕ → ℕ → ℕ → Call
-responds address status given = reception (Received (RejoinResponseCommand (from address NoIeee) (record { network_address = record { 0 = given }; status = status })))
+responds address status given = reception (Ok (Some (RejoinResponseCommand (from address None) (record { network_address = record { 0 = given }; status = status }))))
 
 abbrev accepts : ℕ → Call
 accepts address = responds address 0 0x2345
@@ -180,7 +176,7 @@ associates address channel =
     }))
 
 -- the header of a command to a short address, with the IEEE address known of it and a sequence number
-abbrev header : ℕ → OptionalIeee → ℕ → Bool → CommandHeader
+abbrev header : ℕ → Option IeeeAddress → ℕ → Bool → CommandHeader
 header to ieee sequence secure =
     record { destination = record { 0 = to }; destination_ieee = ieee; source = record { 0 = 0x1234 }; source_ieee = record { 0 = 1 }; sequence_number = sequence; secure = secure }
 
@@ -188,13 +184,13 @@ abbrev transmits : ℕ → SentFrame → Step
 transmits to frame = Ask (Transmit (record { pan_id = record { 0 = 17 }; address = record { 0 = to }; frame = frame }))
 
 -- the rejoin request of a node with capabilities, and an end device's; the announcement of a leave by a router
-abbrev rejoins_as : ℕ → ℕ → ℕ → OptionalIeee → Step
+abbrev rejoins_as : ℕ → ℕ → ℕ → Option IeeeAddress → Step
 rejoins_as capabilities sequence address ieee = transmits address (CommandFrame (header address ieee sequence false) (RejoinRequest (record { 0 = capabilities })))
 
-abbrev rejoins : ℕ → ℕ → OptionalIeee → Step
+abbrev rejoins : ℕ → ℕ → Option IeeeAddress → Step
 rejoins sequence address ieee = rejoins_as 0x80 sequence address ieee
 
-abbrev announces : ℕ → OptionalIeee → Step
+abbrev announces : ℕ → Option IeeeAddress → Step
 announces sequence ieee = transmits 0xffff (CommandFrame (header 0xffff ieee sequence true) (Leave (record { request = false; rejoin = true; remove_children = false })))
 
 abbrev polls : ℕ → Step
@@ -217,7 +213,7 @@ joining ds = discovery range ∷ hears ds ∷ take_status ∷ join_of Associatio
 abbrev joins : ℕ → List PanDescriptor → List Call
 joins network ds = discovery range ∷ hears ds ∷ join_of Association network ∷ []
 
-abbrev discovers : ScanOutcome → List Call
+abbrev discovers : Result PanDescriptorList radio.MacError → List Call
 discovers o = discovery range ∷ scan o ∷ []
 
 abbrev succeeds : List PanDescriptor → List Call
@@ -230,7 +226,7 @@ abbrev left : List PanDescriptor → List Call
 left ds = join_of NwkRejoin 0 ∷ hears ds ∷ transmission true ∷ leaves 5 ∷ declines 7 ∷ []
 
 abbrev taught_by7 : List PanDescriptor → List Call
-taught_by7 ds = join_of NwkRejoin 0 ∷ hears ds ∷ transmission true ∷ reception (Received (Data (from 7 (Ieee (record { 0 = 99 }))))) ∷ declines 8 ∷ []
+taught_by7 ds = join_of NwkRejoin 0 ∷ hears ds ∷ transmission true ∷ reception (Ok (Some (Data (from 7 (Some (record { 0 = 99 })))))) ∷ declines 8 ∷ []
 
 abbrev twice : List PanDescriptor → List Call
 twice ds = join_of NwkRejoin 0 ∷ hears ds ∷ transmission false ∷ join_of NwkRejoin 0 ∷ transmission false ∷ hears ds ∷ []
@@ -256,7 +252,7 @@ index s = tried_index (length (entries s)) s.candidates
 record Computed : Type 0 where
   -- a foreign beacon first, then one of the network: the association is asked of the second, though the newest update id of the whole table is the foreign one.
   -- A start while it is under way is refused
-  joins-past : steps (run new (joining (foreign 1 ∷ own-7 ∷ []))) ≡ Ask (Scan range) ∷ Discovered ∷ StatusTaken NoStatusIndication ∷ associates 7 15 ∷ Refused 1 ∷ []
+  joins-past : steps (run new (joining (foreign 1 ∷ own-7 ∷ []))) ≡ Ask (Scan range) ∷ Discovered ∷ StatusTaken None ∷ associates 7 15 ∷ Refused OperationUnderWay ∷ []
   -- the network is a "non-zero extended PAN id": a join that names 0 takes any network, and tries the foreign beacon first where it is heard
   wild-with : steps (run new (joins 0 (foreign 1 ∷ own-7 ∷ []))) ≡ Ask (Scan range) ∷ Discovered ∷ associates 1 20 ∷ []
   wild-without : steps (run new (joins 0 (own-7 ∷ []))) ≡ Ask (Scan range) ∷ Discovered ∷ associates 7 15 ∷ []
@@ -264,43 +260,43 @@ record Computed : Type 0 where
   other-with : steps (run new (joins 9 (foreign 1 ∷ own-7 ∷ []))) ≡ Ask (Scan range) ∷ Discovered ∷ associates 1 20 ∷ []
   other-without : steps (run new (joins 9 (own-7 ∷ []))) ≡ Ask (Scan range) ∷ Discovered ∷ Joined (failure NotPermitted) ∷ []
   -- so does a rejoin that names 9, where no network is remembered
-  elsewhere-with : steps (run lone (join_of NwkRejoin 9 ∷ hears (foreign 1 ∷ own-7 ∷ []) ∷ [])) ≡ Ask (Scan range) ∷ rejoins 1 1 NoIeee ∷ []
+  elsewhere-with : steps (run lone (join_of NwkRejoin 9 ∷ hears (foreign 1 ∷ own-7 ∷ []) ∷ [])) ≡ Ask (Scan range) ∷ rejoins 1 1 None ∷ []
   elsewhere-without : steps (run lone (join_of NwkRejoin 9 ∷ hears (own-7 ∷ []) ∷ [])) ≡ Ask (Scan range) ∷ Joined (failure NotPermitted) ∷ []
   -- the network's beacons are "equal in every field and in order": of two at one depth the first heard is tried first, and on the channel that it was heard on
   order-one : steps (run new (joins 170 (own-7 ∷ own-8 ∷ []))) ≡ Ask (Scan range) ∷ Discovered ∷ associates 7 15 ∷ []
   order_other : steps (run new (joins 170 (own-8 ∷ own-7 ∷ []))) ≡ Ask (Scan range) ∷ Discovered ∷ associates 8 15 ∷ []
   field-other : steps (run new (joins 170 (beacon 7 170 20 5 ∷ own-8 ∷ []))) ≡ Ask (Scan range) ∷ Discovered ∷ associates 7 20 ∷ []
   -- scans are "both within 27 and 16" or both above: 17 foreign beacons are refused by 4, 28 descriptors by 3
-  above-16 : steps (run new (discovers (scan_of (replicate 17 (foreign 1))))) ≡ Ask (Scan range) ∷ Refused 4 ∷ []
-  above-27 : steps (run new (discovers (record { failed = false; list = record { descriptors = replicate 27 (foreign 1); count = 28 } }))) ≡ Ask (Scan range) ∷ Refused 3 ∷ []
+  above-16 : steps (run new (discovers (scan_of (replicate 17 (foreign 1))))) ≡ Ask (Scan range) ∷ Refused TooManyShortAddressed ∷ []
+  above-27 : steps (run new (discovers (Ok (record { descriptors = replicate 27 (foreign 1); count = 28 })))) ≡ Ask (Scan range) ∷ Refused TooManyDescriptors ∷ []
   above-none : steps (run new (discovers (scan_of []))) ≡ Ask (Scan range) ∷ Discovered ∷ []
   -- no leave command is handled: a leave of the foreign 5, while 7 is tried, removes its entry, and the index of 8 lies past the table then.
   -- So 8 is skipped where 5 was heard
-  left-with : steps (run member (left (foreign 5 ∷ own-7 ∷ own-8 ∷ []))) ≡ Ask (Scan range) ∷ rejoins 1 7 NoIeee ∷ polls 7 ∷ polls 7 ∷ Joined (failure PanAtCapacity) ∷ []
-  left-without : steps (run member (left (own-7 ∷ own-8 ∷ []))) ≡ Ask (Scan range) ∷ rejoins 1 7 NoIeee ∷ polls 7 ∷ polls 7 ∷ rejoins 2 8 NoIeee ∷ []
+  left-with : steps (run member (left (foreign 5 ∷ own-7 ∷ own-8 ∷ []))) ≡ Ask (Scan range) ∷ rejoins 1 7 None ∷ polls 7 ∷ polls 7 ∷ Joined (failure PanAtCapacity) ∷ []
+  left-without : steps (run member (left (own-7 ∷ own-8 ∷ []))) ≡ Ask (Scan range) ∷ rejoins 1 7 None ∷ polls 7 ∷ polls 7 ∷ rejoins 2 8 None ∷ []
   -- nor a leave request: a router announces it to the broadcast address, with the IEEE address that a foreign entry of that address has learnt
-  asked-with : steps (run member (asked (own-7 ∷ foreign 0xffff ∷ []))) ≡ Ask (Scan range) ∷ rejoins_as 0x82 1 7 NoIeee ∷ polls 7 ∷ announces 2 (Ieee (record { 0 = 99 })) ∷ []
-  asked-without : steps (run member (asked (own-7 ∷ []))) ≡ Ask (Scan range) ∷ rejoins_as 0x82 1 7 NoIeee ∷ polls 7 ∷ announces 2 NoIeee ∷ []
+  asked-with : steps (run member (asked (own-7 ∷ foreign 0xffff ∷ []))) ≡ Ask (Scan range) ∷ rejoins_as 0x82 1 7 None ∷ polls 7 ∷ announces 2 (Some (record { 0 = 99 })) ∷ []
+  asked-without : steps (run member (asked (own-7 ∷ []))) ≡ Ask (Scan range) ∷ rejoins_as 0x82 1 7 None ∷ polls 7 ∷ announces 2 None ∷ []
   -- nothing is under way at the start: a rejoin of the network 9 that awaits its scan tries what is heard of 9,
   -- though the list names no network and may be read with 170
-  awaited-with : steps (run (node 0x1234 9 (Phase.Scan ScanFor.Rejoin)) (hears (foreign 5 ∷ []) ∷ [])) ≡ rejoins 1 5 NoIeee ∷ []
+  awaited-with : steps (run (node 0x1234 9 (Phase.Scan ScanFor.Rejoin)) (hears (foreign 5 ∷ []) ∷ [])) ≡ rejoins 1 5 None ∷ []
   awaited-without : steps (run (node 0x1234 9 (Phase.Scan ScanFor.Rejoin)) (hears [] ∷ [])) ≡ Joined (failure NotPermitted) ∷ []
   -- a frame from 7 arrives while 8 is tried. Where a foreign 7 was heard first, its entry learns the IEEE address, and the network's own entry of 7 keeps 0.
   -- Else the own entry learns it. The request to 7 carries 99 in both, since it is looked up by short address.
   -- Read off the candidate's own entry it would differ
-  taught-with : steps (run member (taught_by7 (foreign 7 ∷ own-8 ∷ own-7 ∷ []))) ≡ Ask (Scan range) ∷ rejoins 1 8 NoIeee ∷ polls 8 ∷ polls 8 ∷ rejoins 2 7 (Ieee (record { 0 = 99 })) ∷ []
-  taught-without : steps (run member (taught_by7 (own-8 ∷ own-7 ∷ []))) ≡ Ask (Scan range) ∷ rejoins 1 8 NoIeee ∷ polls 8 ∷ polls 8 ∷ rejoins 2 7 (Ieee (record { 0 = 99 })) ∷ []
+  taught-with : steps (run member (taught_by7 (foreign 7 ∷ own-8 ∷ own-7 ∷ []))) ≡ Ask (Scan range) ∷ rejoins 1 8 None ∷ polls 8 ∷ polls 8 ∷ rejoins 2 7 (Some (record { 0 = 99 })) ∷ []
+  taught-without : steps (run member (taught_by7 (own-8 ∷ own-7 ∷ []))) ≡ Ask (Scan range) ∷ rejoins 1 8 None ∷ polls 8 ∷ polls 8 ∷ rejoins 2 7 (Some (record { 0 = 99 })) ∷ []
   addresses-with : addresses (reached member (taught_by7 (foreign 7 ∷ own-8 ∷ own-7 ∷ []))) ≡ 99 ∷ 0 ∷ 0 ∷ []
   addresses-without : addresses (reached member (taught_by7 (own-8 ∷ own-7 ∷ []))) ≡ 0 ∷ 99 ∷ []
   -- the index of the candidate that is being tried differs: a confirm that named it would
   index-with : index (reached new (joining (foreign 1 ∷ own-7 ∷ []))) ≡ 1
   index-without : index (reached new (joining (own-7 ∷ []))) ≡ 0
   -- a rejoin whose one candidate fails, and another, which tries that candidate as its remembered parent and scans anew
-  tries-twice : steps (run member (twice (foreign 1 ∷ own-7 ∷ []))) ≡ Ask (Scan range) ∷ rejoins 1 7 NoIeee ∷ Joined (failure MacError) ∷ rejoins 2 7 NoIeee ∷ Ask (Scan range) ∷ rejoins 3 7 NoIeee ∷ []
+  tries-twice : steps (run member (twice (foreign 1 ∷ own-7 ∷ []))) ≡ Ask (Scan range) ∷ rejoins 1 7 None ∷ Joined (failure MacError) ∷ rejoins 2 7 None ∷ Ask (Scan range) ∷ rejoins 3 7 None ∷ []
   -- a rejoin that ends in success
   rejoins-past :
       steps (run member (succeeds (foreign 1 ∷ own-7 ∷ [])))
-      ≡ Ask (Scan range) ∷ rejoins 1 7 NoIeee ∷ polls 7 ∷ Joined (record { status = Success; network_address = record { 0 = 0x2345 }; extended_pan_id = record { 0 = 170 }; channel = 15 }) ∷ []
+      ≡ Ask (Scan range) ∷ rejoins 1 7 None ∷ polls 7 ∷ Joined (record { status = Success; network_address = record { 0 = 0x2345 }; extended_pan_id = record { 0 = 170 }; channel = 15 }) ∷ []
   -- the theorem at three pairs of lists that differ in a foreign beacon; the last are longer than those of 01
   applied : run new (joining (foreign 1 ∷ own-7 ∷ [])) ≡ run new (joining (own-7 ∷ []))
   applied-success : run member (succeeds (foreign 1 ∷ own-7 ∷ [])) ≡ run member (succeeds (own-7 ∷ []))
@@ -309,19 +305,19 @@ record Computed : Type 0 where
 -- what the two nodes hear
 heard-alike : AlikeScan 170 (scan_of (foreign 1 ∷ own-7 ∷ [])) (scan_of (own-7 ∷ []))
 unfolding neighbors_of flat_map present neighbor_by
-heard-alike = within refl refl (omega arith) (omega arith) (omega arith) (omega arith) refl
+heard-alike = within (omega arith) (omega arith) (omega arith) (omega arith) refl
 
 -- a response is no leave command
-abbrev is_leave : ReceptionOutcome → Bool
-is_leave ReceptionOutcome.NoData = false
-is_leave ReceptionOutcome.ReceptionFailed = false
-is_leave (ReceptionOutcome.Received ReceivedFrame.Undecodable) = false
-is_leave (ReceptionOutcome.Received (ReceivedFrame.Data s)) = false
-is_leave (ReceptionOutcome.Received (ReceivedFrame.RejoinResponseCommand s r)) = false
-is_leave (ReceptionOutcome.Received (ReceivedFrame.TimeoutResponseCommand s r)) = false
-is_leave (ReceptionOutcome.Received (ReceivedFrame.LeaveCommand s d l)) = true
-is_leave (ReceptionOutcome.Received (ReceivedFrame.OtherCommand s)) = false
-is_leave (ReceptionOutcome.Received ReceivedFrame.OtherFrame) = false
+abbrev is_leave : Result (Option ReceivedFrame) radio.MacError → Bool
+is_leave (Ok None) = false
+is_leave (Err e) = false
+is_leave (Ok (Some ReceivedFrame.Undecodable)) = false
+is_leave (Ok (Some (ReceivedFrame.Data s))) = false
+is_leave (Ok (Some (ReceivedFrame.RejoinResponseCommand s r))) = false
+is_leave (Ok (Some (ReceivedFrame.TimeoutResponseCommand s r))) = false
+is_leave (Ok (Some (ReceivedFrame.LeaveCommand s d l))) = true
+is_leave (Ok (Some (ReceivedFrame.OtherCommand s))) = false
+is_leave (Ok (Some ReceivedFrame.OtherFrame)) = false
 
 computed : Computed
 unfolding answer bad refuse outcome moved potential_cleared finish with_chosen associate join_by with_scan scan_heard scan_over continuing table_changed after reception_over transmission_over parent_in tried_index skipped next_index next_in past_table taking adopted_next found ieee_of parent_of on_entries learnt marked adopted retained eligible depth_at candidates newer newest potential_parent_of entry_of neighbor_by present neighbors_of associating join_started failed_status invalid trying scan_or_end try_remembered rejoin_started try_candidate try_next try_failed rejoined responded answered_by polling poll_on request_sent taught_by taught rejoin_responded neighbor_left accepts_leave announcement leave_requested leave_handled handled negotiation_reset command_header link_cost shown flat_map

@@ -1,4 +1,5 @@
 -- A received frame that is no leave command leaves the table, and what the poll was for goes on. Assumes nothing.
+use Rattle.std.specs.Prelude.{Option, Some, None, Result, Ok, Err}
 use mathlib.Core.Path.{◌≡◌, refl}
 use mathlib.Core.Bool.{false}
 use Rattle.management.specs.declared.PollAnswer.{PollAnswer}
@@ -9,8 +10,8 @@ use Rattle.operation.specs.declared.Purpose.{Purpose}
 use Rattle.operation.specs.declared.Phase.{Phase}
 use Rattle.node.specs.Calls.{go_on, with_node, table_changed, after, processed}
 use Rattle.node.specs.declared.State.{State}
-use Rattle.node.specs.declared.ReceptionOutcome.{ReceptionOutcome}
 use Rattle.two_nodes.specs.Statement.{NoLeave}
+use Rattle.discovery.specs.declared.mlme.MacError.{MacError}
 
 abbrev pub PlainFrame : ReceivedFrame → Type 0
 PlainFrame ReceivedFrame.Undecodable = Unit {0}
@@ -21,21 +22,21 @@ PlainFrame (ReceivedFrame.LeaveCommand f d o) = ⊥
 PlainFrame (ReceivedFrame.OtherCommand f) = Unit {0}
 PlainFrame ReceivedFrame.OtherFrame = Unit {0}
 
-abbrev pub Plain : ReceptionOutcome → Type 0
-Plain ReceptionOutcome.NoData = Unit {0}
-Plain ReceptionOutcome.ReceptionFailed = Unit {0}
-Plain (ReceptionOutcome.Received f) = PlainFrame f
+abbrev pub Plain : Result (Option ReceivedFrame) MacError → Type 0
+Plain (Ok None) = Unit {0}
+Plain (Err e) = Unit {0}
+Plain (Ok (Some f)) = PlainFrame f
 
-pub plain_of : (s : State) (o : ReceptionOutcome) → NoLeave s o → (u : Purpose) → s.control.operation.phase ≡ Phase.Reception u → Plain o
-plain_of s ReceptionOutcome.NoData w u q = tt
-plain_of s ReceptionOutcome.ReceptionFailed w u q = tt
-plain_of s (ReceptionOutcome.Received ReceivedFrame.Undecodable) w u q = tt
-plain_of s (ReceptionOutcome.Received (ReceivedFrame.Data f)) w u q = tt
-plain_of s (ReceptionOutcome.Received (ReceivedFrame.RejoinResponseCommand f r)) w u q = tt
-plain_of s (ReceptionOutcome.Received (ReceivedFrame.TimeoutResponseCommand f r)) w u q = tt
-plain_of s (ReceptionOutcome.Received (ReceivedFrame.LeaveCommand f d o)) w u q = w f d o u refl q
-plain_of s (ReceptionOutcome.Received (ReceivedFrame.OtherCommand f)) w u q = tt
-plain_of s (ReceptionOutcome.Received ReceivedFrame.OtherFrame) w u q = tt
+pub plain_of : (s : State) (o : Result (Option ReceivedFrame) MacError) → NoLeave s o → (u : Purpose) → s.control.operation.phase ≡ Phase.Reception u → Plain o
+plain_of s (Ok None) w u q = tt
+plain_of s (Err e) w u q = tt
+plain_of s (Ok (Some ReceivedFrame.Undecodable)) w u q = tt
+plain_of s (Ok (Some (ReceivedFrame.Data f))) w u q = tt
+plain_of s (Ok (Some (ReceivedFrame.RejoinResponseCommand f r))) w u q = tt
+plain_of s (Ok (Some (ReceivedFrame.TimeoutResponseCommand f r))) w u q = tt
+plain_of s (Ok (Some (ReceivedFrame.LeaveCommand f d o))) w u q = w f d o u refl q
+plain_of s (Ok (Some (ReceivedFrame.OtherCommand f))) w u q = tt
+plain_of s (Ok (Some ReceivedFrame.OtherFrame)) w u q = tt
 
 abbrev pub nlme_after : ReceivedFrame → Nlme → Nlme
 nlme_after ReceivedFrame.Undecodable n = n

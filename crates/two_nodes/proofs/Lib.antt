@@ -1,4 +1,5 @@
 -- The laws of `two_nodes`.
+pub mod Tables
 pub mod Sight
 pub mod States
 pub mod Decisions

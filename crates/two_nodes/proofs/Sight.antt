@@ -1,5 +1,6 @@
 -- What network n sees of a table: its own entries and the parents, each as commands are addressed to it. Assumes nothing.
 -- Each look at a table is a look at what is seen, and what is seen after a write is determined by what was seen before.
+use Rattle.std.specs.Prelude.{Option}
 use Prim.Native.Nat.{ℕ, zero, suc, ◌<◌, ◌≤◌}
 use mathlib.Core.Path.{◌≡◌, refl, sym, ap, ap₂, ◌∙◌, fun_ext, subst⁻¹}
 use mathlib.Core.Bool.{Bool, true, false, cond, ◌&&◌, ◌||◌}
@@ -25,7 +26,6 @@ use Rattle.nib.proofs.Looks.{parent-cons}
 use Rattle.nib.proofs.Addressed.{look, ieee_in, seen, entry_seen, parent-seen, Mild, mild-relationship, mild-cleared, seen-change, seen-map, taught_to, seen-learnt, NoAddress, seen-fresh}
 use Rattle.candidates.specs.UpdateIds.{of_network, newest}
 use Rattle.candidates.specs.Candidates.{depth_at, ordered, candidates}
-use Rattle.candidates.specs.declared.Newest.{Newest}
 use Rattle.candidates.proofs.Laws.{member}
 use Rattle.candidates.proofs.Network.{map-ordered, newest-own, fit, eligible-own}
 use Rattle.candidates.specs.Tries.{parent_in}
@@ -292,5 +292,5 @@ module _ (profile : ℕ) (router permit : Bool) (n : ℕ) (some : n ≡ 0 → �
 
       there : indexes_from (fit router permit (newest permit n (shows n es))) 0 (select (of_network n) (shows n es)) ≡ indexes_from ok 0 own
       there =
-          ap₂ (λ (b : Newest) (l : List NwkNeighbor). indexes_from (fit router permit b) 0 l) (newest-shows permit n es) (own-shows n es)
+          ap₂ (λ (b : Option ℕ) (l : List NwkNeighbor). indexes_from (fit router permit b) 0 l) (newest-shows permit n es) (own-shows n es)
           ∙ indexes-map (look (ieee_in es)) ok 0 own

@@ -1,5 +1,6 @@
 -- What network n sees of a state: of its table, and of its candidates their places among the network's own entries. Assumes nothing.
 -- Each look at a state is a look at what is seen, and what is seen after each write of a call is determined by what was seen before.
+use Rattle.std.specs.Prelude.{Option, Some, None}
 use Prim.Native.Nat.{ℕ, zero, suc, ◌+◌, ◌-◌, ◌<◌, ◌≤◌, min}
 use mathlib.Core.Path.{◌≡◌, refl, sym, ap, ◌∙◌, subst⁻¹}
 use mathlib.Core.Bool.{Bool, true, false, cond, not, ◌||◌, false≢true}
@@ -20,11 +21,8 @@ use Rattle.nib.specs.Identifiers.{bit}
 use Rattle.nib.proofs.Tables.{entries-of}
 use Rattle.nib.specs.declared.CapabilityInformation.{CapabilityInformation}
 use Rattle.nib.specs.declared.ShortAddress.{ShortAddress}
-use Rattle.nib.specs.declared.OptionalIeee.{OptionalIeee}
-use Rattle.nib.specs.declared.OptionalIeee.TheVariants.{NoIeee, Ieee}
 use Rattle.nib.specs.declared.NeighborTable.{NeighborTable}
 use Rattle.nib.specs.declared.NwkNeighbor.{NwkNeighbor}
-use Rattle.nib.specs.declared.Neighbor.{Neighbor}
 use Rattle.nib.specs.NeighborTable.{without_potential, on_entries, marked, potential_cleared_at, parent_of}
 use Rattle.nib.proofs.Entries.{on_same, entries-on, learnt-long, marked-long, adopted-long, cleared-long, potential-long}
 use Rattle.management.specs.declared.frame.Source.{Source}
@@ -49,6 +47,7 @@ use Rattle.nlme.specs.Received.{taught_by, taught}
 use Rattle.node.specs.declared.State.{State}
 use Rattle.two_nodes.specs.Statement.{beacon_of}
 use Rattle.two_nodes.proofs.Sight.{shows, marks, Placed, nowhere, placed_at, parent-shows, entry-shows, changed-shows, adopted_in, adopted-shows, adopted-marks, joined_in, joined-shows, joined-ranks, learnt-shows, learnt-marks, scan-shows, choice_in, choice-ours, choice-shows}
+use Rattle.nib.specs.declared.IeeeAddress.{IeeeAddress}
 
 -- what is seen of the table; the places of all candidates among the network's own entries; and how many candidates have been taken
 pub record Sight : Type 0 where
@@ -92,10 +91,10 @@ tried_place v = cond (eqb v.taken 0) (length v.list) (get_or v.places (v.taken -
 abbrev next_place : Sight → ℕ
 next_place v = get_or v.places v.taken (length v.list)
 
-abbrev pub tried_seen : ℕ → Sight → Neighbor
+abbrev pub tried_seen : ℕ → Sight → Option NwkNeighbor
 tried_seen n v = entry_at (select (of_network n) v.list) (tried_place v)
 
-abbrev pub next_seen : ℕ → Sight → Neighbor
+abbrev pub next_seen : ℕ → Sight → Option NwkNeighbor
 next_seen n v = entry_at (select (of_network n) v.list) (next_place v)
 
 none-skipped : (m k : ℕ) (l : List ℕ) → All (λ i. i < m) l → first_index (λ i. ltb i m) (drop k l) ≡ 0
@@ -364,19 +363,19 @@ module _ (ds : List PanDescriptor) (s : State) (within : short_addressed ds ≤ 
 
 -- a frame teaches its sender's address
 
-abbrev pub learnt_in : OptionalIeee → ShortAddress → List NwkNeighbor → List NwkNeighbor
-learnt_in NoIeee a l = l
-learnt_in (Ieee x) a l = map (taught_to a.0 x) l
+abbrev pub learnt_in : Option IeeeAddress → ShortAddress → List NwkNeighbor → List NwkNeighbor
+learnt_in None a l = l
+learnt_in (Some x) a l = map (taught_to a.0 x) l
 
 -- who is said to have sent a frame; nobody teaches nothing
 abbrev pub sender : ReceivedFrame → Source
-sender Undecodable = record { address = record { 0 = 0 }; ieee = NoIeee }
+sender Undecodable = record { address = record { 0 = 0 }; ieee = None }
 sender (Data f) = f
 sender (RejoinResponseCommand f r) = f
 sender (TimeoutResponseCommand f r) = f
 sender (LeaveCommand f d o) = f
 sender (OtherCommand f) = f
-sender OtherFrame = record { address = record { 0 = 0 }; ieee = NoIeee }
+sender OtherFrame = record { address = record { 0 = 0 }; ieee = None }
 
 taught_by_lem : (f : ReceivedFrame) (es : List NwkNeighbor) → taught f es ≡ taught_by (sender f).ieee (sender f).address es
 unfolding taught taught_by
@@ -388,20 +387,20 @@ taught_by_lem (LeaveCommand f d o) es = refl
 taught_by_lem (OtherCommand f) es = refl
 taught_by_lem OtherFrame es = refl
 
-by-long : (x : OptionalIeee) (a : ShortAddress) (es : List NwkNeighbor) → length (taught_by x a es) ≡ length es
+by-long : (x : Option IeeeAddress) (a : ShortAddress) (es : List NwkNeighbor) → length (taught_by x a es) ≡ length es
 unfolding taught_by
-by-long NoIeee a es = refl
-by-long (Ieee x) a es = learnt-long a.0 x es
+by-long None a es = refl
+by-long (Some x) a es = learnt-long a.0 x es
 
-by-marks : (n : ℕ) (x : OptionalIeee) (a : ShortAddress) (es : List NwkNeighbor) → marks n (taught_by x a es) ≡ marks n es
+by-marks : (n : ℕ) (x : Option IeeeAddress) (a : ShortAddress) (es : List NwkNeighbor) → marks n (taught_by x a es) ≡ marks n es
 unfolding taught_by
-by-marks n NoIeee a es = refl
-by-marks n (Ieee x) a es = learnt-marks n a.0 x es
+by-marks n None a es = refl
+by-marks n (Some x) a es = learnt-marks n a.0 x es
 
-by-shows : (n : ℕ) (x : OptionalIeee) (a : ShortAddress) (es : List NwkNeighbor) → shows n (taught_by x a es) ≡ learnt_in x a (shows n es)
+by-shows : (n : ℕ) (x : Option IeeeAddress) (a : ShortAddress) (es : List NwkNeighbor) → shows n (taught_by x a es) ≡ learnt_in x a (shows n es)
 unfolding taught_by
-by-shows n NoIeee a es = refl
-by-shows n (Ieee x) a es = learnt-shows n a.0 x es
+by-shows n None a es = refl
+by-shows n (Some x) a es = learnt-shows n a.0 x es
 
 abbrev pub taught_in : ReceivedFrame → Sight → Sight
 taught_in f v = record { list = learnt_in (sender f).ieee (sender f).address v.list; places = v.places; taken = v.taken }

@@ -19,11 +19,12 @@ use Rattle.two_nodes.specs.Statement.{Shown, shown, run, NoneUnderWay, AlikeCall
 use Rattle.two_nodes.proofs.States.{live, live_in, Tidy}
 use Rattle.two_nodes.proofs.Decisions.{never, OnPhase}
 use Rattle.two_nodes.proofs.Agreement.{Near, step-good}
+use Rattle.operation.specs.declared.Refusal.TheVariants.{BadState}
 
 -- A STATE THAT 5 TURNS DOWN stays as it is, whatever is called
 
 module _ (s : State) (b : bad s ≡ true) where
-  refused : (c : Call) → answer s c ≡ refuse 5 s
+  refused : (c : Call) → answer s c ≡ refuse BadState s
   unfolding answer
   refused c = sym (pick_true (bad s) _ _ b)
 

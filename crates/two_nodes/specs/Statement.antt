@@ -1,6 +1,6 @@
 -- The statement of demand 3 (01, "Two nodes"): "Two nodes in equal states that differ only in what other networks' beacons they hear end up the same:
 -- one theorem over whole lists of calls."
-use Rattle.std.specs.Prelude.{ℕ, ◌<◌, ◌≤◌, ◌≡◌, Bool, true, false, List, [], ◌∷◌, eqb}
+use Rattle.std.specs.Prelude.{Err, Option, Some, Result, Ok, ℕ, ◌<◌, ◌≤◌, ◌≡◌, Bool, true, false, List, [], ◌∷◌, eqb}
 use Rattle.lists.specs.Lists.{select}
 use Rattle.nib.specs.declared.ShortAddress.{ShortAddress}
 use Rattle.discovery.specs.Mlme.{descriptors_of}
@@ -22,9 +22,9 @@ use Rattle.node.specs.Looks.{parent}
 use Rattle.node.specs.Calls.{Call, discovery, join, send, poll, receive, timeout, scan, association, transmission, reception, elapsed, take_leave, take_status, answer}
 use Rattle.node.specs.declared.State.{State}
 use Rattle.node.specs.declared.Answer.{Answer}
-use Rattle.node.specs.declared.ScanOutcome.{ScanOutcome}
-use Rattle.node.specs.declared.ReceptionOutcome.{ReceptionOutcome}
 use Rattle.lent_tick.specs.OwnRecord.{OwnRecord}
+use Rattle.discovery.specs.declared.mlme.MacError.{MacError}
+use Rattle.discovery.specs.declared.mlme.PanDescriptorList.{PanDescriptorList}
 
 -- what is compared after each call: the control part, the parent's short address, the notes, the request, confirm, answer or refusal, and the polls used.
 -- The control part has own addresses, PAN id, extended PAN id, update id, capabilities and all else but the neighbour table and the candidates.
@@ -33,7 +33,7 @@ pub record Shown : Type 0 where
   pub control : Control
   pub parent : ShortAddress
   pub reset : Bool
-  pub note : Note
+  pub note : Option Note
   pub step : Step
   pub polls : ℕ
 
@@ -59,19 +59,18 @@ beacon_of n d = eqb d.zigbee_beacon.extended_pan_id.0 n
 
 -- "Scan outcomes at the same place are equal failures; or both within 27 and 16, the network's beacons equal in every field and in order; or both above 27;
 -- or both within 27 with above 16 short-addressed."
-pub data AlikeScan (n : ℕ) (o p : ScanOutcome) : Type 0 where
-  failures : o.failed ≡ true → p.failed ≡ true → AlikeScan n o p
-  within : o.failed ≡ false → p.failed ≡ false → o.list.count ≤ 27 → p.list.count ≤ 27
-      → short_addressed (descriptors_of o.list) ≤ 16 → short_addressed (descriptors_of p.list) ≤ 16
-      → select (beacon_of n) (descriptors_of o.list) ≡ select (beacon_of n) (descriptors_of p.list) → AlikeScan n o p
-  above-27 : o.failed ≡ false → p.failed ≡ false → 27 < o.list.count → 27 < p.list.count → AlikeScan n o p
-  above-16 : o.failed ≡ false → p.failed ≡ false → o.list.count ≤ 27 → p.list.count ≤ 27
-      → 16 < short_addressed (descriptors_of o.list) → 16 < short_addressed (descriptors_of p.list) → AlikeScan n o p
+pub data AlikeScan (n : ℕ) : Result PanDescriptorList MacError → Result PanDescriptorList MacError → Type 0 where
+  failures : (e f : MacError) → AlikeScan n (Err e) (Err f)
+  within : {l m : PanDescriptorList} → l.count ≤ 27 → m.count ≤ 27 → short_addressed (descriptors_of l) ≤ 16 → short_addressed (descriptors_of m) ≤ 16
+      → select (beacon_of n) (descriptors_of l) ≡ select (beacon_of n) (descriptors_of m) → AlikeScan n (Ok l) (Ok m)
+  above-27 : {l m : PanDescriptorList} → 27 < l.count → 27 < m.count → AlikeScan n (Ok l) (Ok m)
+  above-16 : {l m : PanDescriptorList} → l.count ≤ 27 → m.count ≤ 27
+      → 16 < short_addressed (descriptors_of l) → 16 < short_addressed (descriptors_of m) → AlikeScan n (Ok l) (Ok m)
 
 -- two lists of calls that are equal but for what the scans heard
 pub data AlikeCall (n : ℕ) : Call → Call → Type 0 where
   same : (c : Call) → AlikeCall n c c
-  scans : {o p : ScanOutcome} → AlikeScan n o p → AlikeCall n (scan o) (scan p)
+  scans : {o p : Result PanDescriptorList MacError} → AlikeScan n o p → AlikeCall n (scan o) (scan p)
 
 pub data AlikeCalls (n : ℕ) : List Call → List Call → Type 0 where
   none : AlikeCalls n [] []
@@ -83,9 +82,9 @@ NoneUnderWay s = s.control.operation.phase ≡ Phase.Idle
 -- the premise that no leave command is handled. A notification's removal moves later entries up, so that an index still to be tried names another entry
 -- (`left-with`, proofs/Examples.antt). A router announces a request with an IEEE address that another network's entry may have
 -- (`asked-with`; compare/traces/x2-request-first.in). The premise is wider than these need. A leave is handled where a poll or receive is awaited
-abbrev pub NoLeave : State → ReceptionOutcome → Type 0
+abbrev pub NoLeave : State → Result (Option ReceivedFrame) MacError → Type 0
 NoLeave s o =
-    (f : Source) (d : ShortAddress) (l : LeaveOptions) (u : Purpose) → o ≡ ReceptionOutcome.Received (ReceivedFrame.LeaveCommand f d l)
+    (f : Source) (d : ShortAddress) (l : LeaveOptions) (u : Purpose) → o ≡ Ok (Some (ReceivedFrame.LeaveCommand f d l))
     → s.control.operation.phase ≡ Phase.Reception u → ⊥
 
 -- "The network is the non-zero extended PAN id named by the join or rejoin that is called with no operation under way,

@@ -9,6 +9,7 @@ use borrow.Author.Tests.{eqb-true, leb-true}
 use lib.Dec.{eqb, leb}
 use lib.ListN.{length, take, drop, get_or, length-map}
 use lib.Seq.{drop-cons, length-take-le}
+use Rattle.std.specs.List.{list_all, zip}
 use Rattle.lists.proofs.Lists.{take_next}
 use Rattle.nib.specs.Neighbors.{table_of, pushed}
 use Rattle.nib.specs.declared.NwkNeighbor.{NwkNeighbor}
@@ -16,31 +17,25 @@ use Rattle.nib.specs.declared.NeighborTable.{NeighborTable}
 use Rattle.nib.proofs.Tables.{push-of}
 use Rattle.text.specs.Text.{fields}
 use Rattle.yard_list.specs.declared.Form.{Form}
-use Rattle.yard_list.specs.declared.Form.TheVariants.{EntryWord}
 use Rattle.yard_list.specs.YardList.{fits, request_forms, entry_forms, all_fit, is_good, good_from, entry_of, entries_in}
 
--- a number that is at least m and not m
-pub past : (m k : ℕ) → m ≤ k → (k ≡ m → ⊥) → suc m ≤ k
-past m k h n = omega arith
-
 -- other than as many fields as forms do not fit
-pub fit-long : (ms : List Form) (fs : List (List ℕ)) → (length fs ≡ length ms → ⊥) → all_fit ms fs ≡ false
-fit-long [] [] h = absurd (h refl)
-fit-long [] (f ∷ fs) h = refl
-fit-long (m ∷ ms) [] h = refl
-fit-long (m ∷ ms) (f ∷ fs) h = rw (fit-long ms fs (λ e. h (ap suc e))) (neither (fits m f))
+pub fit_long : (ms : List Form) (fs : List (List ℕ)) → (length fs ≡ length ms → ⊥) → all_fit ms fs ≡ false
+fit_long [] [] h = absurd (h refl)
+fit_long [] (f ∷ fs) h = refl
+fit_long (m ∷ ms) [] h = refl
+fit_long (m ∷ ms) (f ∷ fs) h = rw (fit_long ms fs (λ e. h (ap suc e))) (neither (fits m f))
   where
     neither : (b : Bool) → (b && false) ≡ false
     neither true = refl
     neither false = refl
 
--- a loop over the fields: what the one at k says
-module _ (ms : List Form) (fs : List (List ℕ)) (k : ℕ) (hm : k < length ms) (hf : k < length fs) where
-  pub fit-stops : fits (get_or ms k EntryWord) (get_or fs k []) ≡ false → all_fit (drop k ms) (drop k fs) ≡ false
-  fit-stops e = rw (drop-cons ms k EntryWord hm, drop-cons fs k [] hf, e)
-
-  pub fit_on : fits (get_or ms k EntryWord) (get_or fs k []) ≡ true → all_fit (drop k ms) (drop k fs) ≡ all_fit (drop (k + 1) ms) (drop (k + 1) fs)
-  fit_on e = rw (add-one, drop-cons ms k EntryWord hm, drop-cons fs k [] hf, e)
+-- where there are as many, each field beside its form says it
+pub fit_each : (ms : List Form) (fs : List (List ℕ)) → length fs ≡ length ms → list_all (λ p. fits p.1 p.0) (zip fs ms) ≡ all_fit ms fs
+fit_each [] [] h = refl
+fit_each [] (f ∷ fs) h = let x : ⊥ = omega (arith, h) in absurd x
+fit_each (m ∷ ms) [] h = let x : ⊥ = omega (arith, h) in absurd x
+fit_each (m ∷ ms) (f ∷ fs) h = ap (λ (b : Bool). fits m f && b) (fit_each ms fs (omega (arith, h)))
 
 -- a loop over the lines: what the one at k says
 module _ (ls : List (List ℕ)) (k : ℕ) (h : k < length ls) where

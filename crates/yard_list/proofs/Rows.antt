@@ -7,14 +7,14 @@ use native.Mathlib.Nat.{add-zero, not-suc-le-zero}
 use native.Mathlib.Omega.{arith}
 use borrow.Author.Tests.{lt-ltb, le-ltb, eq-eqb, ne_eqb, eqb-true}
 use lib.ListN.{length, take, drop, get_or, length-append, length-map, length-take}
-use lib.Seq.{length-take-le, get_or-take}
+use lib.Seq.{length-take-le}
 use lib.Dec.{eqb, ltb}
 use Rattle.lists.specs.Lists.{All}
 use Rattle.lists.proofs.Lists.{take_next}
 use Rattle.nib.specs.Neighbors.{blank, entries_of, table_of}
 use Rattle.nib.specs.declared.NeighborTable.{NeighborTable}
 use Rattle.nib.proofs.Tables.{entries-of}
-use Rattle.candidates.specs.Candidates.{list_of, items_of}
+use Rattle.candidates.specs.Candidates.{list_of}
 use Rattle.candidates.specs.declared.CandidateList.{CandidateList}
 use Rattle.candidates.proofs.Listed.{items-of}
 use Rattle.yard_list.specs.Private.{Named}
@@ -59,10 +59,6 @@ cell-long n end = omega (arith, length-append (decimal_text n) (end ∷ []), dec
 
 -- how long what is written is, for the sums of a line's places
 pub ruleset sizes = (decimal-long, cell-long)
-
--- what stands at an index of a CandidateList
-pub item-at : (c : CandidateList) (i : ℕ) → length c.indexes ≡ 16 → c.count ≤ 16 → i < c.count → (i < length (items_of c)) × (get_or (items_of c) i 0 ≡ get_or c.indexes i 0)
-item-at c i n f h = (omega (arith, length-take c.count c.indexes), get_or-take c.count c.indexes i 0 h)
 
 -- the candidates of the entries of at most 16 lines
 pub named : (t : NeighborTable) (c : CandidateList) (fs ns : List (List ℕ)) → t ≡ table_of (entries_in ns) → length ns ≤ 16 → c ≡ list_of (chosen fs (entries_of t)) → Named t c

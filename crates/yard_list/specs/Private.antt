@@ -1,19 +1,10 @@
 -- What the private functions ask and say. No public promise uses it.
-use Rattle.std.specs.Prelude.{◌≤◌, ◌<◌, List, length}
+use Rattle.std.specs.Prelude.{◌≤◌, ◌<◌, length}
 use Rattle.lists.specs.Lists.{All}
 use Rattle.nib.specs.Neighbors.{entries_of}
 use Rattle.nib.specs.declared.NeighborTable.{NeighborTable}
 use Rattle.candidates.specs.Candidates.{items_of}
 use Rattle.candidates.specs.declared.CandidateList.{CandidateList}
-use Rattle.yard_list.specs.YardList.{request_forms, entry_forms}
-use Rattle.yard_list.specs.declared.Form.{Form}
-use Rattle.yard_list.specs.declared.Kind.{Kind}
-use Rattle.yard_list.specs.declared.Kind.TheVariants.{Request, Entry}
-
--- the forms of a line's fields
-abbrev pub forms_of : Kind → List Form
-forms_of Request = request_forms
-forms_of Entry = entry_forms
 
 -- a list of at most 16 candidates, each an index of the table
 pub record Named (t : NeighborTable) (c : CandidateList) : Type 0 where

@@ -1,9 +1,9 @@
 -- The yard list (01, "The yard list"): what is printed for what is read, each as the list of its bytes. 9 is the tab, 10 the line feed.
-use Rattle.std.specs.Prelude.{ℕ, suc, ◌+◌, ◌-◌, Bool, true, false, cond, ◌&&◌, List, [], ◌∷◌, ◌++◌, map, eqb, ltb, leb, length, take, get_or}
+use Rattle.std.specs.Prelude.{ℕ, suc, ◌+◌, ◌-◌, Bool, true, false, cond, ◌&&◌, List, [], ◌∷◌, ◌++◌, map, eqb, ltb, leb, length, take, get_or, is_some, unwrap_or}
 use Rattle.nib.specs.Neighbors.{NONE, device_type_at, blank}
 use Rattle.nib.specs.declared.NwkNeighbor.{NwkNeighbor}
 use Rattle.candidates.specs.Candidates.{candidates}
-use Rattle.text.specs.Text.{bytes, parts, fields, same_text, decimal_of, hex_of, or_zero, is_number, decimal_text, hex_text}
+use Rattle.text.specs.Text.{bytes, parts, fields, same_text, decimal_of, hex_of, decimal_text, hex_text}
 use Rattle.yard_list.specs.declared.Form.{Form}
 use Rattle.yard_list.specs.declared.Form.TheVariants.{RequestWord, EntryWord, Hex, Decimal}
 
@@ -11,8 +11,8 @@ use Rattle.yard_list.specs.declared.Form.TheVariants.{RequestWord, EntryWord, He
 abbrev pub fits : Form → List ℕ → Bool
 fits RequestWord f = same_text f (bytes "request")
 fits EntryWord f = same_text f (bytes "n")
-fits (Hex digits) f = is_number (hex_of digits f)
-fits (Decimal limit) f = is_number (decimal_of limit f)
+fits (Hex digits) f = is_some (hex_of digits f)
+fits (Decimal limit) f = is_some (decimal_of limit f)
 
 -- line 1: `request`, extended PAN id, role, permit wanted, stack profile
 abbrev pub request_forms : List Form
@@ -41,13 +41,13 @@ good_from k (l ∷ ls) = cond (is_good k l) (suc (good_from (suc k) ls)) 0
 
 -- the numbers in the fields of a good line
 abbrev pub hex_at : ℕ → List (List ℕ) → ℕ → ℕ
-hex_at digits fs k = or_zero (hex_of digits (get_or fs k []))
+hex_at digits fs k = unwrap_or (hex_of digits (get_or fs k [])) 0
 
 abbrev pub byte_at : List (List ℕ) → ℕ → ℕ
-byte_at fs k = or_zero (decimal_of 255 (get_or fs k []))
+byte_at fs k = unwrap_or (decimal_of 255 (get_or fs k [])) 0
 
 abbrev pub flag_at : List (List ℕ) → ℕ → Bool
-flag_at fs k = eqb (or_zero (decimal_of 1 (get_or fs k []))) 1
+flag_at fs k = eqb (unwrap_or (decimal_of 1 (get_or fs k [])) 0) 1
 
 -- the neighbour entry of a line's fields: IEEE address 0 and relationship NONE (3), as a scan makes it (01, "Neighbour entry")
 unfoldable pub entry_of : List (List ℕ) → NwkNeighbor

@@ -2,19 +2,19 @@
 #![tactic(auto)]
 
 ghost use Rattle.std.specs.Prelude.{◌≡◌, [], ◌+◌, ◌-◌, ◌≤◌, ◌<◌, eqb, length, take, drop, get_or};
+ghost use Rattle.std.specs.List.{list_all, zip};
 ghost use Rattle.std.proofs.lemmas.List.Edits.{sets};
 ghost use Rattle.lists.specs.Lists.{over};
-ghost use Rattle.nib.specs.Neighbors.{blank, entries_of, table_of};
+ghost use Rattle.nib.specs.Neighbors.{entries_of, table_of};
 ghost use Rattle.candidates.specs.Candidates.{list_of, items_of};
-ghost use Rattle.text.specs.Text.{parts, fields, or_zero, is_number, decimal_text, hex_text};
-ghost use Rattle.yard_list.specs.Private.{forms_of, Named};
-ghost use Rattle.yard_list.specs.YardList.{fits, request_forms, entry_forms, all_fit, is_good, good_from, hex_at, byte_at, flag_at, entry_of, entries_in, chosen, cell, row_of, rows_from, list_text, bad_text, yard_text};
+ghost use Rattle.text.specs.Text.{parts, fields, decimal_text, hex_text};
+ghost use Rattle.yard_list.specs.Private.{Named};
+ghost use Rattle.yard_list.specs.YardList.{fits, all_fit, is_good, good_from, hex_at, byte_at, flag_at, entry_of, entries_in, chosen, cell, row_of, rows_from, list_text, bad_text, yard_text};
 
 use candidates::CandidateList;
 use nib::{
     ExtendedPanId, IeeeAddress, MAX_NEIGBOUR_TABLE, NeighborTable, NwkNeighbor, PanId, ShortAddress,
 };
-use text::OptionalNumber;
 
 // How many entries a list has at most: as many as a neighbour table.
 const MAX_ENTRIES: usize = MAX_NEIGBOUR_TABLE as usize;
@@ -28,117 +28,58 @@ enum Form {
     Decimal(u32),
 }
 
-// Line 1, or a later line.
-#[derive(Clone, Copy)]
-enum Kind {
-    Request,
-    Entry,
-}
+// The forms of the fields of line 1.
+const REQUEST: [Form; 5] = [
+    Form::RequestWord,
+    Form::Hex(16), // extended PAN id
+    Form::Decimal(1), // role
+    Form::Decimal(1), // permit wanted
+    Form::Decimal(255), // stack profile
+];
 
-// Whether there is a number.
-fn is_number(n: OptionalNumber) -> bool
-    ensures { result ≡ is_number n }
-{
-    match n {
-        OptionalNumber::NoNumber => false,
-        OptionalNumber::Number(_) => true,
-    }
-}
-
-// A number, and 0 where there is none.
-fn or_zero(n: OptionalNumber) -> u64
-    ensures { result ≡ or_zero n }
-{
-    match n {
-        OptionalNumber::NoNumber => 0,
-        OptionalNumber::Number(v) => v,
-    }
-}
+// The forms of the fields of a later line.
+const ENTRY: [Form; 12] = [
+    Form::EntryWord,
+    Form::Hex(4), // address
+    Form::Hex(16), // extended PAN id
+    Form::Decimal(255), // channel
+    Form::Decimal(255), // depth
+    Form::Decimal(1), // permit
+    Form::Decimal(1), // router capacity
+    Form::Decimal(1), // end device capacity
+    Form::Decimal(255), // LQI
+    Form::Decimal(255), // potential parent
+    Form::Decimal(255), // update id
+    Form::Hex(4), // PAN id
+];
 
 // Whether a field has a form.
 fn has_form(f: &[u8], form: Form) -> bool
     ensures { result ≡ fits form f.now }
 {
     match form {
-        Form::RequestWord => text::same(f, b"request"),
-        Form::EntryWord => text::same(f, b"n"),
-        Form::Hex(digits) => is_number(text::hex(f, digits)),
-        Form::Decimal(limit) => is_number(text::decimal(f, limit)),
+        Form::RequestWord => f == b"request".as_slice(),
+        Form::EntryWord => f == b"n".as_slice(),
+        Form::Hex(digits) => text::hex(f, digits).is_some(),
+        Form::Decimal(limit) => text::decimal(f, limit).is_some(),
     }
 }
 
-// The form of field k of line 1.
-fn request_form(k: usize) -> Form
-    ensures { result ≡ get_or request_forms k Form.EntryWord }
+// Whether each field of a line has the form at its place, as far as both go.
+fn fields_fit(line: &[u8], forms: &[Form]) -> bool
+    ensures { result ≡ list_all (λ p. fits p.1 p.0) (zip (fields line.now) forms.now) }
 {
-    match k {
-        0 => Form::RequestWord,
-        1 => Form::Hex(16),
-        2 => Form::Decimal(1),
-        3 => Form::Decimal(1),
-        4 => Form::Decimal(255),
-        _ => Form::EntryWord,
-    }
+    line.split(|b| *b == b'\t')
+        .zip(forms)
+        .all(|(f, form)| has_form(f, *form))
 }
 
-// The form of field k of a later line.
-fn entry_form(k: usize) -> Form
-    ensures { result ≡ get_or entry_forms k Form.EntryWord }
+// Whether a line has as many fields as there are forms, each of its form.
+#[tactic(auto, using(crate::proofs::Lines::fit_long))]
+fn is_line(line: &[u8], forms: &[Form]) -> bool
+    ensures { result ≡ all_fit forms.now (fields line.now) }
 {
-    match k {
-        0 => Form::EntryWord,
-        1 => Form::Hex(4),
-        2 => Form::Hex(16),
-        3 => Form::Decimal(255),
-        4 => Form::Decimal(255),
-        5 => Form::Decimal(1),
-        6 => Form::Decimal(1),
-        7 => Form::Decimal(1),
-        8 => Form::Decimal(255),
-        9 => Form::Decimal(255),
-        10 => Form::Decimal(255),
-        11 => Form::Hex(4),
-        _ => Form::EntryWord,
-    }
-}
-
-// The form of field k of a line.
-fn form_of(kind: Kind, k: usize) -> Form
-    ensures { result ≡ get_or (forms_of kind) k Form.EntryWord }
-{
-    match kind {
-        Kind::Request => request_form(k),
-        Kind::Entry => entry_form(k),
-    }
-}
-
-// How many fields a line has.
-fn field_count(kind: Kind) -> usize
-    ensures { result ≡ length (forms_of kind) }
-{
-    match kind {
-        Kind::Request => 5,
-        Kind::Entry => 12,
-    }
-}
-
-// Whether a line is of a kind.
-fn is_line(line: &[u8], kind: Kind) -> bool
-    ensures { result ≡ all_fit (forms_of kind) (fields line.now) }
-{
-    let count = field_count(kind);
-    if text::part_count(line, b'\t') != count {
-        return false;
-    }
-    let mut k = 0;
-    while k < count {
-        let form = form_of(kind, k);
-        if !has_form(text::field(line, k), form) {
-            return false;
-        }
-        k += 1;
-    }
-    true
+    text::part_count(line, b'\t') == forms.len() && fields_fit(line, forms)
 }
 
 // Whether a line with k lines before it is good.
@@ -147,12 +88,12 @@ fn is_good(line: &[u8], k: usize) -> bool
     ensures { result ≡ is_good k line.now }
 {
     if k == 0 {
-        return is_line(line, Kind::Request);
+        return is_line(line, &REQUEST);
     }
     if MAX_ENTRIES < k {
         return false;
     }
-    is_line(line, Kind::Entry)
+    is_line(line, &ENTRY)
 }
 
 // How many of the first `ended` lines are good, up to the first that is not.
@@ -160,21 +101,19 @@ fn good_lines(input: &[u8], ended: usize) -> usize
     requires { ended ≤ length (parts 10 input.now) }
     ensures { result ≡ good_from 0 (take ended (parts 10 input.now)) }
 {
-    let mut k = 0;
-    while k < ended {
+    for k in 0..ended {
         if !is_good(text::part(input, b'\n', k), k) {
             return k;
         }
-        k += 1;
     }
-    k
+    ended
 }
 
 // The hexadecimal number in field k.
 fn hex_at(line: &[u8], digits: usize, k: usize) -> u64
     ensures { result ≡ hex_at digits (fields line.now) k }
 {
-    or_zero(text::hex(text::field(line, k), digits))
+    text::hex(text::field(line, k), digits).unwrap_or(0)
 }
 
 // The number of 16 bits in field k.
@@ -188,14 +127,14 @@ fn short_at(line: &[u8], k: usize) -> u16
 fn byte_at(line: &[u8], k: usize) -> u8
     ensures { result ≡ byte_at (fields line.now) k }
 {
-    or_zero(text::decimal(text::field(line, k), 255)) as u8
+    text::decimal(text::field(line, k), 255).unwrap_or(0) as u8
 }
 
 // Whether the number in field k is 1.
 fn flag_at(line: &[u8], k: usize) -> bool
     ensures { result ≡ flag_at (fields line.now) k }
 {
-    or_zero(text::decimal(text::field(line, k), 1)) == 1
+    text::decimal(text::field(line, k), 1).unwrap_or(0) == 1
 }
 
 // The neighbour entry of a line.
@@ -244,11 +183,8 @@ fn read_table(input: &[u8], count: usize) -> NeighborTable
     ensures { result ≡ table_of (entries_in (take count (drop 1 (parts 10 input.now)))) }
 {
     let mut table = NeighborTable::new();
-    let mut i = 0;
-    while i < count {
-        let e = read_entry(text::part(input, b'\n', i + 1));
-        table = table.push(e);
-        i += 1;
+    for i in 0..count {
+        table = table.push(read_entry(text::part(input, b'\n', i + 1)));
     }
     table
 }
@@ -277,7 +213,7 @@ fn write_number(out: &mut [u8], at: usize, n: u8, end: u8) -> usize
     requires { at ≤ 1000 }
     ensures { (result ≡ length (cell (decimal_text n) end)) × (out.new ≡ sets out.old at (cell (decimal_text n) end)) }
 {
-    let count = text::write_decimal(out, at, n as u32);
+    let count = text::write_decimal(out, at, u32::from(n));
     let last = [end];
     count + text::write(out, at + count, &last)
 }
@@ -287,9 +223,8 @@ fn write_address(out: &mut [u8], at: usize, address: u16) -> usize
     requires { at ≤ 1000 }
     ensures { (result ≡ 5) × (out.new ≡ sets out.old at (cell (hex_text 4 address) 9)) }
 {
-    text::write_hex(out, at, address as u64, 4);
-    text::write(out, at + 4, b"\t");
-    5
+    let count = text::write_hex(out, at, u64::from(address), 4);
+    count + text::write(out, at + count, b"\t")
 }
 
 // Writes a candidate's line.
@@ -305,29 +240,17 @@ fn write_row(out: &mut [u8], at: usize, place: u8, index: u8, e: NwkNeighbor) ->
     d + write_number(out, at + d, e.depth, b'\n')
 }
 
-// The entry at an index of a table.
-fn entry_at(table: NeighborTable, index: u8) -> NwkNeighbor
-    requires { index < length (entries_of table) }
-    ensures { result ≡ get_or (entries_of table) index blank }
-{
-    let at = index as usize;
-    table.entries[at]
-}
-
 // Writes a line for each candidate.
 fn write_rows(out: &mut [u8], start: usize, table: NeighborTable, list: CandidateList) -> usize
     requires { (start ≤ 100) × Named table list }
-    ensures { (result ≡ length (rows_from (entries_of table) 1 (items_of list))) × (out.new ≡ sets out.old start (rows_from (entries_of table) 1 (items_of list))) }
+    ensures { (result ≡ length (rows_from (entries_of table) 1 (items_of list)))
+        × (out.new ≡ sets out.old start (rows_from (entries_of table) 1 (items_of list))) }
 {
-    let count = list.count;
+    let entries = table.used();
     let mut written = 0;
-    let mut i: u8 = 0;
-    while i < count {
-        let k = i as usize;
-        let index = list.indexes[k];
-        let e = entry_at(table, index);
-        written += write_row(out, start + written, i + 1, index, e);
-        i += 1;
+    for (i, index) in list.used().iter().enumerate() {
+        let e = entries[*index as usize];
+        written += write_row(out, start + written, i as u8 + 1, *index, e);
     }
     written
 }
@@ -357,7 +280,7 @@ fn write_bad(out: &mut [u8], number: usize) -> usize
 fn is_ended(input: &[u8], ended: usize) -> bool
     ensures { result ≡ eqb (length (get_or (parts 10 input.now) ended [])) 0 }
 {
-    text::part(input, b'\n', ended).len() == 0
+    text::part(input, b'\n', ended).is_empty()
 }
 
 // Writes the yard list of an input and returns its length, which is at most 512.

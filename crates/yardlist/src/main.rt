@@ -1,8 +1,6 @@
 // Reads a request and neighbour entries from standard input and prints the candidates for a parent.
 #![tactic(auto)]
 
-use filter::Input;
-
 // Prints the usage if there is an argument, and answers whether it did.
 fn usage_printed(rt: &HostRuntime) -> bool {
     filter::print_usage(
@@ -29,7 +27,7 @@ fn usage_printed(rt: &HostRuntime) -> bool {
 fn print_list(rt: &HostRuntime, input: &[u8]) {
     let mut out = [0u8; 512];
     let length = yard_list::yard_list(input, &mut out);
-    filter::write(rt, b"yardlist", &out[..length]);
+    let _ = filter::write(rt, b"yardlist", &out[..length]);
 }
 
 // The first 1,024 bytes are enough: `cut-is-enough` of yard_list says that the list of a longer input is theirs.
@@ -38,7 +36,7 @@ fn main(rt: HostRuntime) {
         return;
     }
     let mut input = [0u8; 1024];
-    let Input::Bytes(n) = filter::read_full(&rt, b"yardlist", &mut input) else {
+    let Ok(n) = filter::read_full(&rt, b"yardlist", &mut input) else {
         return;
     };
     print_list(&rt, &input[..n]);

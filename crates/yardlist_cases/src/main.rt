@@ -2,36 +2,38 @@
 // A case is a line with its name, and then what is read. Its name and its answer are printed.
 #![tactic(auto)]
 
-use filter::Input;
+use filter::Failed;
 
 const NAME: [u8; 14] = *b"yardlist_cases";
 
-fn print(rt: &HostRuntime, bytes: &[u8]) -> bool {
+fn print(rt: &HostRuntime, bytes: &[u8]) -> Result<(), Failed> {
     filter::write(rt, &NAME, bytes)
 }
 
-// Answers whether all could be printed.
-fn run(rt: &HostRuntime, case: &[u8]) -> bool {
+fn run(rt: &HostRuntime, case: &[u8]) -> Result<(), Failed> {
     let name = text::part(case, b'\n', 0);
     let n = name.len() + 1;
     if case.len() < n {
-        return true;
+        return Ok(());
     }
     let mut out = [0u8; 512];
     let length = yard_list::yard_list(&case[n..], &mut out);
-    print(rt, b"# ") && print(rt, name) && print(rt, b"\n") && print(rt, &out[..length])
+    print(rt, b"# ")?;
+    print(rt, name)?;
+    print(rt, b"\n")?;
+    print(rt, &out[..length])
+}
+
+// Runs the cases, up to what can't be printed.
+fn run_all(rt: &HostRuntime) -> Result<(), Failed> {
+    let mut space = [0u8; 32768];
+    let n = filter::read_full(rt, &NAME, &mut space)?;
+    for case in space[..n].split(|b| *b == 0x1e) {
+        run(rt, case)?;
+    }
+    Ok(())
 }
 
 fn main(rt: HostRuntime) {
-    let mut space = [0u8; 32768];
-    let Input::Bytes(n) = filter::read_full(&rt, &NAME, &mut space) else {
-        return;
-    };
-    let input = &space[..n];
-    let count = text::part_count(input, 0x1e);
-    for k in 0..count {
-        if !run(&rt, text::part(input, 0x1e, k)) {
-            return;
-        }
-    }
+    let _ = run_all(&rt);
 }

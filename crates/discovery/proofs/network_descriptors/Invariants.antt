@@ -1,14 +1,8 @@
-use Prim.Native.Nat.{◌≤◌, ◌-◌}
-use mathlib.Core.Path.{◌≡◌}
-use mathlib.Core.List.{map}
-use lib.ListN.{take, replicate}
+use Rattle.std.proofs.Common.{◌≡◌, take, map, replicate}
 use Rattle.lists.specs.Lists.{over}
 use Rattle.discovery.specs.Discovery.{network_descriptor_of, blank_descriptor}
 use Rattle.discovery.proofs.network_descriptors.Given as goal
 
 -- after i descriptors what is told of them stands in the first i slots, and the other slots are blank
 abbrev pub invariant-loop-i : goal.invariant-loop-i
-invariant-loop-i l = (l.i ≤ l.n) × (l.slots ≡ over (replicate 27 blank_descriptor) (map network_descriptor_of (take l.i l.list.descriptors)))
-
-abbrev pub decreases-loop-i : goal.decreases-loop-i
-decreases-loop-i l = l.n - l.i
+invariant-loop-i l = l.confirm.network_descriptor ≡ over (replicate 27 blank_descriptor) (map network_descriptor_of (take l.i l.used))

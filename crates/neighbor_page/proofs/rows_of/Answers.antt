@@ -1,7 +1,5 @@
--- `rows_of` meets its contract: after i slots the first row and those of i slots stand in front. Assumes nothing.
-use native.Mathlib.Omega.{arith}
-use mathlib.Core.Path.{◌≡◌, ap, ◌∙◌}
-use lib.ListN.{replicate}
+-- `rows_of` meets its contract. Assumes nothing.
+use Rattle.std.proofs.Common.{◌≡◌, replicate, ap, ◌∙◌, arith}
 use Rattle.nib.specs.Neighbors.{entries_of, entry_at}
 use Rattle.neighbor_page.specs.Page.{slot_row}
 use Rattle.neighbor_page.proofs.Gathered.{rows_next}
@@ -10,5 +8,6 @@ use Rattle.neighbor_page.proofs.rows_of.Goals as goal
 pub loop-i-preserved : goal.loop-i-preserved
 loop-i-preserved c =
     let es = entries_of c.args.table in
-    let x : c.slot_row-row.result ≡ slot_row c.loop-i.i (entry_at es c.loop-i.i) = c.slot_row-row.ensures ∙ ap (slot_row c.loop-i.i) c.get.ensures in
-    (omega arith, c.loop-i.invariant.1, rows_next es (replicate 17 c.first_row-first.result) c.loop-i.rows c.loop-i.i c.slot_row-row.result c.loop-i.invariant.1 (omega arith) c.loop-i.invariant.2 x)
+    let i = c.loop-i.i in
+    let x : c.slot_row.result ≡ slot_row i (entry_at es i) = c.slot_row.ensures ∙ ap (slot_row i) c.get.ensures in
+    (c.loop-i.invariant.0, rows_next es (replicate 17 c.first_row-rows.result) c.loop-i.rows i c.slot_row.result c.loop-i.invariant.0 (omega arith) c.loop-i.invariant.1 x)

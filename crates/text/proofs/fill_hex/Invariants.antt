@@ -7,6 +7,3 @@ use Rattle.text.proofs.fill_hex.Given as goal
 
 abbrev pub invariant-loop-at : goal.invariant-loop-at
 invariant-loop-at l = (l.from ≤ l.at) × (l.at ≤ 16) × (length l.bytes ≡ 16) × (hex_text (16 - l.from) l.n ≡ hex_text (l.at - l.from) l.left ++ drop l.at l.bytes)
-
-abbrev pub decreases-loop-at : goal.decreases-loop-at
-decreases-loop-at l = l.at

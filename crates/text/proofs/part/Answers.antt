@@ -1,15 +1,19 @@
 -- `part` meets its contract. Assumes nothing.
-use native.Mathlib.Omega.{arith}
-use Prim.Native.Nat.{ℕ, ◌-◌}
-use mathlib.Core.Path.{◌≡◌, sym, ap, ◌∙◌}
-use lib.Dec.{eqb}
-use lib.ListN.{take, drop}
-use Rattle.lists.specs.Lists.{first_index}
-use Rattle.text.proofs.Parts.{first_part}
+use Rattle.std.proofs.Common.{◌≡◌, ℕ, List, [], ap, ◌∙◌, eqb, rules, refl}
+use borrow.Author.Tests.{tests}
+use denote.Ref.{Bor}
+use Rattle.std.specs.Prelude.{Option, Some, None, option_map, unwrap_or}
+use Rattle.std.proofs.lemmas.Option.{unwrap_or-slice_get}
+use Rattle.std.proofs.lemmas.Iterator.Consumers.{nth_from_yields_List}
+use Rattle.std.proofs.lemmas.Iterator.Splits.{YieldsList-from_slice_split}
+use Rattle.text.specs.Text.{parts}
 use Rattle.text.proofs.part.Goals as goal
+
+now-or : (r : Option (Bor (List ℕ))) (d : Bor (List ℕ)) → (unwrap_or r d).now ≡ unwrap_or (option_map (λ x. x.now) r) d.now
+now-or None d = refl
+now-or (Some x) d = refl
 
 pub returns : goal.returns
 returns c =
-    let l = drop c.start-a.result c.args.s.now in
-    let e : c.find-e.result - c.start-a.result ≡ first_index (λ b. eqb b c.args.sep) l = omega (arith, c.find-e.ensures.0) in
-    ap (λ (n : ℕ). take n l) e ∙ sym (first_part c.args.sep l) ∙ c.start-a.ensures.1
+    let e = nth_from_yields_List c.nth.result c.nth.new.self c.args.k c.nth.ensures.ran (YieldsList-from_slice_split _ (λ b. eqb b c.args.sep) c.args.s.now c.split.ensures.rest c.split.ensures.done c.split.ensures.closure (λ x b q k. search (rules, tests))) in
+    ap (λ (x : Bor (List ℕ)). x.now) c.unwrap_or.ensures ∙ now-or c.nth.result _ ∙ ap (λ (o : Option (List ℕ)). unwrap_or o []) e ∙ unwrap_or-slice_get (parts c.args.sep c.args.s.now) c.args.k []

@@ -1,4 +1,4 @@
-use Prim.Native.Nat.{◌+◌, ◌-◌, ◌≤◌}
+use Prim.Native.Nat.{◌+◌}
 use mathlib.Core.Path.{◌≡◌}
 use lib.ListN.{take, drop}
 use Rattle.text.specs.Text.{parts}
@@ -6,7 +6,4 @@ use Rattle.yard_list.specs.YardList.{good_from}
 use Rattle.yard_list.proofs.good_lines.Given as goal
 
 abbrev pub invariant-loop-k : goal.invariant-loop-k
-invariant-loop-k l = (l.k ≤ l.ended) × (good_from 0 (take l.ended (parts 10 l.input)) ≡ l.k + good_from l.k (drop l.k (take l.ended (parts 10 l.input))))
-
-abbrev pub decreases-loop-k : goal.decreases-loop-k
-decreases-loop-k l = l.ended - l.k
+invariant-loop-k l = good_from 0 (take l.ended (parts 10 l.input)) ≡ l.k + good_from l.k (drop l.k (take l.ended (parts 10 l.input)))

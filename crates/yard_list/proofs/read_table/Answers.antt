@@ -16,5 +16,5 @@ loop-i-preserved c =
     let i = c.loop-i.i in
     let o : i + 1 ≡ 1 + i = omega arith in
     let g : get_or ls (i + 1) [] ≡ get_or (drop 1 ls) i [] = ap (λ (n : ℕ). get_or ls n []) o ∙ sym (get_or-drop 1 ls i []) in
-    let e = c.read_entry-e.ensures ∙ ap (λ (l : List ℕ). entry_of (fields l)) (c.part.ensures ∙ g) in
-    (omega arith, c.push-table.ensures ∙ table-next (drop 1 ls) i c.loop-i.table c.read_entry-e.result (omega (arith, length-drop 1 ls, c.requires.1)) (omega (arith, c.requires.0)) c.loop-i.invariant.1 e)
+    let e = c.read_entry.ensures ∙ ap (λ (l : List ℕ). entry_of (fields l)) (c.part.ensures ∙ g) in
+    c.push-table.ensures ∙ table-next (drop 1 ls) i c.loop-i.table c.read_entry.result (omega (arith, length-drop 1 ls, c.requires.1)) (omega (arith, c.requires.0)) c.loop-i.invariant e

@@ -1,4 +1,3 @@
-use Prim.Native.Nat.{◌-◌, ◌≤◌}
 use mathlib.Core.Path.{◌≡◌}
 use lib.ListN.{take, drop}
 use Rattle.nib.specs.Neighbors.{table_of}
@@ -7,7 +6,4 @@ use Rattle.yard_list.specs.YardList.{entries_in}
 use Rattle.yard_list.proofs.read_table.Given as goal
 
 abbrev pub invariant-loop-i : goal.invariant-loop-i
-invariant-loop-i l = (l.i ≤ l.count) × (l.table ≡ table_of (entries_in (take l.i (drop 1 (parts 10 l.input)))))
-
-abbrev pub decreases-loop-i : goal.decreases-loop-i
-decreases-loop-i l = l.count - l.i
+invariant-loop-i l = l.table ≡ table_of (entries_in (take l.i (drop 1 (parts 10 l.input))))

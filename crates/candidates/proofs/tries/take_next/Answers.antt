@@ -1,23 +1,33 @@
 -- `take_next` meets its contract. Assumes nothing.
-use Rattle.std.proofs.Common.{◌≡◌, ℕ, ◌+◌, min, length, ap, arith}
+use Rattle.std.specs.Prelude.{Option, position, unwrap_or}
+use Rattle.std.proofs.Common.{◌≡◌, ℕ, ◌+◌, min, length, ltb, sym, ap, ◌∙◌, arith, length-drop}
+use Rattle.std.proofs.lemmas.List.Quantifiers.{position-Some}
+use Rattle.lists.proofs.First.{first-found}
 use Rattle.candidates.specs.Candidates.{items_of}
-use Rattle.candidates.specs.Tries.{skipped, taking}
+use Rattle.candidates.specs.Tries.{to_try, skipped, taking}
 use Rattle.candidates.specs.declared.tries.Candidates.{Candidates}
 use Rattle.candidates.proofs.tries.take_next.Goals as goal
+use Rattle.candidates.proofs.tries.take_next.Goals.{in-Some, in-None}
 
 abbrev taken_to : ℕ → Candidates → Candidates
 taken_to k c = record { list = c.list; taken = k }
 
-pub returns-then-length-next : goal.returns-then-length-next
-unfolding taking skipped
-returns-then-length-next c =
-    let e : c.in_use-length.result ≡ min (c.args.candidates.taken + skipped c.args.count c.args.candidates + 1) (length (items_of c.args.candidates.list)) =
-    omega (arith, c.first_below-next.ensures, c.in_use-length.ensures) in
-    ap (λ (k : ℕ). taken_to k c.args.candidates) e
+-- the place that is found, or that of the end
+place : (n : ℕ) (c : Candidates) (o : Option ℕ) → o ≡ position (λ i. ltb i n) (to_try c) → unwrap_or o (length (to_try c)) ≡ skipped n c
+unfolding skipped
+place n c o e = ap (λ (o : Option ℕ). unwrap_or o (length (to_try c))) e ∙ first-found (λ i. ltb i n) (to_try c)
 
 pub returns : goal.returns
-unfolding taking skipped
+unfolding taking
 returns c =
-    let e : c.first_below-next.result + 1 ≡ min (c.args.candidates.taken + skipped c.args.count c.args.candidates + 1) (length (items_of c.args.candidates.list)) =
-    omega (arith, c.first_below-next.ensures, c.in_use-length.ensures) in
-    ap (λ (k : ℕ). taken_to k c.args.candidates) e
+    let n = c.args.count in
+    let k = c.args.candidates in
+    let items = items_of k.list in
+    let left : position (λ i. ltb i n) c.left-to_try.result.now ≡ position (λ i. ltb i n) (to_try k) = ap (position (λ i. ltb i n)) c.left-to_try.ensures in
+    let e : c.match-place_below.taken ≡ min (k.taken + skipped n k + 1) (length items) =
+    elim c.match-place_below.branch [
+      | in-Some w ↦ let f = w.in-Some.ensures ∙ left in
+          omega (arith, w.taken-is, place n k _ f, (position-Some (λ i. ltb i n) (to_try k) w.in-Some.skipped 0 (sym f)).0, length-drop k.taken items)
+      | in-None w ↦ omega (arith, w.taken-is, ap length w.used.ensures, place n k _ (w.in-None.ensures ∙ left), length-drop k.taken items)
+    ] in
+    ap (λ (t : ℕ). taken_to t k) e

@@ -1,13 +1,9 @@
-use Prim.Native.Nat.{◌≤◌, ◌-◌}
-use mathlib.Core.Path.{◌≡◌}
-use mathlib.Core.List.{map}
+use Rattle.std.proofs.Common.{◌≡◌, map, ◌≤◌}
 use Rattle.lists.specs.Lists.{on_front}
-use Rattle.nib.specs.Private.{entry_changed}
+use Rattle.nib.specs.declared.NwkNeighbor.{NwkNeighbor}
+use Rattle.nib.specs.Private.{Changes}
 use Rattle.nib.proofs.neighbor_table.change_all.Given as goal
 
 -- the first i slots are changed, the others and the count are as before
 abbrev pub invariant-loop-i : goal.invariant-loop-i
-invariant-loop-i l = (l.count ≤ 16) × (l.i ≤ l.count) × (l.table ≡ record { entries = on_front l.i (map (entry_changed l.change)) l.initial.table.entries; count = l.initial.table.count })
-
-abbrev pub decreases-loop-i : goal.decreases-loop-i
-decreases-loop-i l = l.count - l.i
+invariant-loop-i g l = (l.i-end ≤ 16) × (l.table.count ≡ l.initial.table.count) × ((f : NwkNeighbor → NwkNeighbor) → Changes (goal.F-post g l.change) f → l.table.entries ≡ on_front l.i (map f) l.initial.table.entries)

@@ -1,7 +1,10 @@
 -- `neighbor_ieee_address` meets its contract. Assumes nothing.
-use Rattle.nib.specs.NeighborTable.{found, ieee_of}
+use Rattle.std.proofs.Common.{rules}
+use Rattle.nib.specs.Neighbors.{entries_of}
+use Rattle.nib.specs.NeighborTable.{ieee_of}
+use Rattle.nib.proofs.Looks.{found-find}
 use Rattle.nib.proofs.neighbor_table.neighbor_ieee_address.Goals as goal
 
 pub returns : goal.returns
-unfolding ieee_of found
-returns c = rw (c.known_ieee.ensures, c.get.ensures, c.first-index.ensures)
+unfolding ieee_of
+returns c = rw (found-find c.args.address.0 (entries_of c.args.table)) (search rules)

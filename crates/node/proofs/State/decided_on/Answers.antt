@@ -24,8 +24,8 @@ returns c =
     let m = a.decision.candidate in
     let h : n ≡ length (entries s) =
     c.len-count.ensures ∙ sym (clear-long a.decision.clear_potential_parent a.self) ∙ ap (λ (x : State). length (entries x)) (sym after-clear) in
-    let after-move : c.match-candidate.self ≡ moved m s =
-    elim c.match-candidate.branch [
+    let after-move : c.match-decision.self ≡ moved m s =
+    elim c.match-decision.branch [
       | in-Stay w ↦ w.self-is ∙ stay-is m s w.in-Stay.is
       | in-TakeNext w ↦ w.self-is ∙ take-is m s n w.take_next-self.result w.in-TakeNext.is h w.take_next-self.ensures
       | in-AdoptNext w ↦ w.self-is ∙ adopt-is m s n w.next_index-index.result w.adopt_parent-self.result w.take_next-self-in-AdoptNext.result w.in-AdoptNext.is h w.next_index-index.ensures w.adopt_parent-self.ensures w.take_next-self-in-AdoptNext.ensures

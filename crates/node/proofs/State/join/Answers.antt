@@ -1,12 +1,9 @@
 -- `State::join` meets its contract. Assumes nothing.
+use Rattle.std.proofs.Common.{rules}
 use Rattle.node.specs.Calls.{answer}
-use Rattle.node.proofs.TurnedDown.{start-refused, start-made}
+use Rattle.node.proofs.TurnedDown.{started}
 use Rattle.node.proofs.State.join.Goals as goal
-
-pub returns-then-refusal-ne0 : goal.returns-then-refusal-ne0
-unfolding answer
-returns-then-refusal-ne0 c = rw c.refuse.ensures (start-refused c.args.self _ _ c.start_refusal-refusal.ensures c.if-refusal-ne0.true)
 
 pub returns : goal.returns
 unfolding answer
-returns c = rw c.join_by.ensures (start-made c.args.self _ _ c.start_refusal-refusal.ensures c.if-refusal-ne0.false)
+returns c = started c.args.self _ c.start_refusal.ensures c.unless.ensures (λ p. search rules)

@@ -3,41 +3,44 @@ use mathlib.Core.Path.{◌≡◌, sym, ap, ◌∙◌}
 use mathlib.Core.Bool.{false}
 use lib.Dec.{ltb}
 use borrow.Author.Tests.{lt-ltb, le-ltb, ltb-false}
+use Rattle.std.specs.Prelude.{Result, Ok}
 use Rattle.lists.proofs.Conditions.{pick_true, pick-false}
 use Rattle.nib.specs.Neighbors.{table_of}
 use Rattle.nib.specs.declared.NeighborTable.{NeighborTable}
 use Rattle.discovery.specs.Mlme.{descriptors_of}
 use Rattle.discovery.specs.Discovery.{short_addressed}
+use Rattle.discovery.specs.declared.mlme.MacError.{MacError}
+use Rattle.discovery.specs.declared.mlme.PanDescriptorList.{PanDescriptorList}
 use Rattle.discovery.proofs.Scans.{neighbors-all}
 use Rattle.node.specs.Looks.{with_table}
 use Rattle.node.specs.Calls.{with_scan, scan_heard, scan_over}
 use Rattle.node.proofs.State.scan_listed.Goals as goal
 
-pub returns-then-outcome : goal.returns-then-outcome
-unfolding scan_over
-returns-then-outcome c = c.scan_failed.ensures ∙ pick_true c.args.outcome.failed _ _ c.if-outcome.true
-
+-- the outcome is this list
 pub returns-then-list-gt-MAX_PAN_DESCRIPTOR_SIZE : goal.returns-then-list-gt-MAX_PAN_DESCRIPTOR_SIZE
 unfolding scan_over
 returns-then-list-gt-MAX_PAN_DESCRIPTOR_SIZE c =
-    let o = c.args.outcome in
-    c.refuse.ensures ∙ pick_true (ltb 27 o.list.count) _ _ (lt-ltb 27 o.list.count c.if-list-gt-MAX_PAN_DESCRIPTOR_SIZE.true) ∙ pick-false o.failed _ _ c.if-outcome.false
+    let l = c.in-Ok.list in
+    c.refuse.ensures ∙ pick_true (ltb 27 l.count) _ _ (lt-ltb 27 l.count c.if-list-gt-MAX_PAN_DESCRIPTOR_SIZE.true)
+    ∙ sym (ap (λ (o : Result PanDescriptorList MacError). scan_over o c.args.purpose c.args.self) c.in-Ok.is)
 
 pub returns-then-short_addressed-gt-MAX_SHORT_ADDRESSED : goal.returns-then-short_addressed-gt-MAX_SHORT_ADDRESSED
 unfolding scan_over
 returns-then-short_addressed-gt-MAX_SHORT_ADDRESSED c =
-    let o = c.args.outcome in
-    let n = short_addressed (descriptors_of o.list) in
+    let l = c.in-Ok.list in
+    let n = short_addressed (descriptors_of l) in
     c.refuse-then-short_addressed-gt-MAX_SHORT_ADDRESSED.ensures ∙ pick_true (ltb 16 n) _ _ (ap (ltb 16) (sym c.short_addressed.ensures) ∙ lt-ltb 16 _ c.if-short_addressed-gt-MAX_SHORT_ADDRESSED.true)
-    ∙ pick-false (ltb 27 o.list.count) _ _ (le-ltb 27 o.list.count c.if-list-gt-MAX_PAN_DESCRIPTOR_SIZE.false) ∙ pick-false o.failed _ _ c.if-outcome.false
+    ∙ pick-false (ltb 27 l.count) _ _ (le-ltb 27 l.count c.if-list-gt-MAX_PAN_DESCRIPTOR_SIZE.false)
+    ∙ sym (ap (λ (o : Result PanDescriptorList MacError). scan_over o c.args.purpose c.args.self) c.in-Ok.is)
 
 pub returns : goal.returns
 unfolding scan_over with_scan
 returns c =
-    let o = c.args.outcome in
-    let n = short_addressed (descriptors_of o.list) in
+    let l = c.in-Ok.list in
+    let n = short_addressed (descriptors_of l) in
     let few : ltb 16 n ≡ false = ap (ltb 16) (sym c.short_addressed.ensures) ∙ le-ltb 16 _ c.if-short_addressed-gt-MAX_SHORT_ADDRESSED.false in
-    let made = c.neighbor_table_from-self.ensures ∙ ap table_of (neighbors-all (descriptors_of o.list) (ltb-false 16 n few)) in
+    let made = c.neighbor_table_from-self.ensures ∙ ap table_of (neighbors-all (descriptors_of l) (ltb-false 16 n few)) in
     c.scan_heard.ensures ∙ ap (λ (t : NeighborTable). scan_heard c.args.purpose (with_table t c.args.self)) made
     ∙ pick-false (ltb 16 n) _ _ few
-    ∙ pick-false (ltb 27 o.list.count) _ _ (le-ltb 27 o.list.count c.if-list-gt-MAX_PAN_DESCRIPTOR_SIZE.false) ∙ pick-false o.failed _ _ c.if-outcome.false
+    ∙ pick-false (ltb 27 l.count) _ _ (le-ltb 27 l.count c.if-list-gt-MAX_PAN_DESCRIPTOR_SIZE.false)
+    ∙ sym (ap (λ (o : Result PanDescriptorList MacError). scan_over o c.args.purpose c.args.self) c.in-Ok.is)

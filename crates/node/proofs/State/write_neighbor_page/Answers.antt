@@ -8,6 +8,7 @@ use Rattle.neighbor_page.specs.Page.{too_short}
 use Rattle.node.specs.Refusals.{refuse, bad}
 use Rattle.node.specs.Calls.{page_answer, page_left}
 use Rattle.node.proofs.State.write_neighbor_page.Goals as goal
+use Rattle.operation.specs.declared.Refusal.TheVariants.{BadState, ShortPage}
 
 pub returns-then-is_bad : goal.returns-then-is_bad
 unfolding page_answer page_left
@@ -32,4 +33,4 @@ returns c =
     let b = c.args.page.now in
     let f : bad s ≡ false = sym c.is_bad.ensures ∙ c.if-is_bad.false in
     let u : too_short (length b) ≡ false = not-true _ (sym c.write_page.ensures.0 ∙ not-false _ c.if-not-write_page.false-raw) in
-    (c.tell_page_written.ensures ∙ pick-false (too_short (length b)) (refuse 6 s) _ u ∙ pick-false (bad s) (refuse 5 s) _ f, c.write_page.ensures.1 ∙ pick-false (bad s) b _ f)
+    (c.tell_page_written.ensures ∙ pick-false (too_short (length b)) (refuse ShortPage s) _ u ∙ pick-false (bad s) (refuse BadState s) _ f, c.write_page.ensures.1 ∙ pick-false (bad s) b _ f)

@@ -16,8 +16,8 @@ returns c =
     let p = c.print-length.ensures in
     let o = c.args.out.now in
     let n : length o ≡ 16384 = c.print-arg-1.given.0.1 in
-    let h : length (text_of c.number_after-number.result c.turn_of-turn.result) ≤ length o = omega (arith, n, p.0, p.1) in
+    let h : length (text_of c.number_after-number.result c.turn_of-turn.result) ≤ length o = omega (arith, n, p.value.0, p.short) in
     let e : text_of c.number_after-number.result c.turn_of-turn.result ≡ printed c.args.line.now c.args.self = λ i. text_of (c.number_after-number.ensures i) (c.turn_of-turn.ensures i) in
     let g = c.is_bad-good.ensures ∙ ap (λ (x : Turn). is_bad x.said) c.turn_of-turn.ensures in
-    let k = p.0 ∙ ap length e in
-    (λ i. record { session = (c.turn_of-turn.ensures i).session; number = c.number_after-number.ensures i; good = not (g i); length = k i }, p.2 ∙ sets_over o (text_of c.number_after-number.result c.turn_of-turn.result) h ∙ ap (over o) e)
+    let k = p.value.0 ∙ ap length e in
+    (λ i. record { session = (c.turn_of-turn.ensures i).session; number = c.number_after-number.ensures i; good = not (g i); length = k i }, p.value.1 ∙ sets_over o (text_of c.number_after-number.result c.turn_of-turn.result) h ∙ ap (over o) e)

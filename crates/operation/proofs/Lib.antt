@@ -1,0 +1,2 @@
+-- The laws of `operation`.
+pub mod Polls

@@ -1,5 +1,0 @@
--- `address_line` meets its contract. Assumes nothing.
-use Rattle.trace.proofs.address_line.Goals as goal
-
-pub returns : goal.returns
-returns c = rw (c.field_line.ensures, c.from_u16.ensures)

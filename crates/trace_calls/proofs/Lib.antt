@@ -1,2 +1,0 @@
--- The laws of `trace_calls`.
-pub mod Lines
