@@ -8,6 +8,7 @@ use trace_calls::Session;
 
 const NAME: [u8; 15] = *b"nodetrace_cases";
 
+// Prints, under the program's own name.
 fn print(rt: &HostRuntime, bytes: &[u8]) -> Result<(), Failed> {
     filter::write(rt, &NAME, bytes)
 }
@@ -22,7 +23,8 @@ impl From<Failed> for Over {
     }
 }
 
-// Answers a line that is ended.
+// Answers a line that is ended. `nodetrace` has the same under its own name: one for both would be a crate more, since `trace` prints nothing and `filter` knows
+// no run.
 fn answer(rt: &HostRuntime, run: Run, line: &[u8]) -> Result<Run, Over> {
     let mut out = [0u8; 16384];
     let next = run.answer_line(line, &mut out);

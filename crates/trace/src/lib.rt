@@ -170,6 +170,7 @@ fn print_node(out: &mut [u8], nlme: Nlme) -> usize
     print_nib(out, nlme.nib, seq, pending, timer)
 }
 
+// No `From`, which would stand in `nib`: the number is that of a trace's line, which only traces know.
 fn device_type_number(t: DeviceType) -> u8
     ensures { result ≡ device_type_number t }
 {

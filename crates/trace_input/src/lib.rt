@@ -61,6 +61,7 @@ pub enum Call {
 
 // Arguments of calls. A field is read modulo the size of its type: the fields of a line that was read fit their types.
 
+// No `From`, here and in `rejoin_network_of`, which would stand beside the type: the number is that of a trace's line, which only traces know.
 fn device_type_of(n: u8) -> DeviceType
     ensures { result ≡ device_type_of n }
 {

@@ -6,6 +6,7 @@ use mathlib.Core.List.{List, [], ◌∷◌, zip_with}
 use native.Mathlib.Omega.{arith}
 use borrow.Author.Tests.{eqb-true, leb-true, ltb-true}
 use lib.Dec.{eqb, leb, ltb}
+use Rattle.std.specs.Bool.{then_some}
 use lib.ListN.{length}
 use Rattle.lists.specs.Lists.{every}
 use Rattle.lists.proofs.Conditions.{split}
@@ -14,7 +15,7 @@ use Rattle.std.specs.Prelude.{Some, None, is_some}
 use Rattle.text.proofs.Numbers.{both}
 use Rattle.text.proofs.Parts.{parts-some}
 use Rattle.text.proofs.Sizes.{same_size, hex-size, decimal-size, total, total-parts}
-use Rattle.trace_lines.specs.TraceLines.{four_digits, sixteen_digits, or_dash, digit_two, digit_three, greatest, number_if, number_of, kinds, word_of, letters_of, all_fit, fits, read_by, line_of}
+use Rattle.trace_lines.specs.TraceLines.{four_digits, sixteen_digits, or_dash, digit_two, digit_three, greatest, number_of, kinds, word_of, letters_of, all_fit, fits, read_by, line_of}
 use Rattle.trace_lines.specs.declared.InputKind.{InputKind}
 
 -- the program has this line stand for one that is missing
@@ -40,7 +41,7 @@ number_size : (letter : ℕ) (f : List ℕ) → is_some (number_of letter f) ≡
 unfolding number_of
 number_size letter f = go (eqb letter four_digits) (eqb letter sixteen_digits) (eqb letter or_dash) (eqb letter digit_two) (eqb letter digit_three) (same_text f (bytes "-")) refl (same_text f (bytes "2")) refl (same_text f (bytes "3")) refl
   where
-    go : (a b c d e x : Bool) → same_text f (bytes "-") ≡ x → (y : Bool) → same_text f (bytes "2") ≡ y → (z : Bool) → same_text f (bytes "3") ≡ z → is_some (cond a (hex_of 4 f) (cond b (hex_of 16 f) (cond c (cond x (Some 0) (hex_of 16 f)) (cond d (number_if y 2) (cond e (number_if z 3) (decimal_of (greatest letter) f)))))) ≡ true → length f ≤ 16
+    go : (a b c d e x : Bool) → same_text f (bytes "-") ≡ x → (y : Bool) → same_text f (bytes "2") ≡ y → (z : Bool) → same_text f (bytes "3") ≡ z → is_some (cond a (hex_of 4 f) (cond b (hex_of 16 f) (cond c (cond x (Some 0) (hex_of 16 f)) (cond d (then_some y 2) (cond e (then_some z 3) (decimal_of (greatest letter) f)))))) ≡ true → length f ≤ 16
     go true b c d e x p y q z r h = omega (arith, hex-size 4 f h)
     go false true c d e x p y q z r h = omega (arith, hex-size 16 f h)
     go false false true d e true p y q z r h = omega (arith, same_size f (bytes "-") p)

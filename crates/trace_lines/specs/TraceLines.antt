@@ -1,6 +1,7 @@
 -- A line of a trace: read as a kind and numbers (compare/FORMAT.md, "Input: the state" and "Input: calls"), and written from typed fields ("Output").
 -- A text is the list of its bytes; 9 is the tab, 10 the line feed.
 use Rattle.std.specs.Prelude.{◌≡◌, ℕ, Bool, cond, ◌&&◌, Option, Some, None, is_some, unwrap_or, eqb, length, take, drop, get_or, replicate}
+use Rattle.std.specs.Bool.{then_some}
 use Rattle.std.proofs.lemmas.List.Edits.{sets}
 use Prim.Native.Char.{code}
 use mathlib.Core.List.{List, [], ◌∷◌, ◌++◌, map, zip_with, flat_map}
@@ -124,17 +125,14 @@ kinds =
     ∷ kind.Receive ∷ kind.Negotiate ∷ kind.Keepalive ∷ kind.TakeLeave ∷ kind.TakeStatus ∷ kind.Candidates ∷ kind.State ∷ kind.Pair
     ∷ kind.Page ∷ kind.Refresh ∷ []
 
-abbrev pub number_if : Bool → ℕ → Option ℕ
-number_if t n = cond t (Some n) None
-
 -- the number in a field, by its letter; that of a dash is 0
 unfoldable pub number_of : ℕ → List ℕ → Option ℕ
 number_of letter f =
     cond (eqb letter four_digits) (hex_of 4 f)
     (cond (eqb letter sixteen_digits) (hex_of 16 f)
     (cond (eqb letter or_dash) (cond (same_text f (bytes "-")) (Some 0) (hex_of 16 f))
-    (cond (eqb letter digit_two) (number_if (same_text f (bytes "2")) 2)
-    (cond (eqb letter digit_three) (number_if (same_text f (bytes "3")) 3) (decimal_of (greatest letter) f)))))
+    (cond (eqb letter digit_two) (then_some (same_text f (bytes "2")) 2)
+    (cond (eqb letter digit_three) (then_some (same_text f (bytes "3")) 3) (decimal_of (greatest letter) f)))))
 
 abbrev pub is_dash : ℕ → List ℕ → Bool
 is_dash letter f = eqb letter or_dash && same_text f (bytes "-")

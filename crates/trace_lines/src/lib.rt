@@ -2,8 +2,9 @@
 #![tactic(auto)]
 
 ghost use Rattle.std.specs.Prelude.{◌≡◌, ◌++◌, cond, ◌≤◌, length, map};
+ghost use Rattle.std.proofs.lemmas.List.Edits.{sets};
 ghost use Rattle.text.specs.Text.{bytes, fields, same_text, hex_of, hex_text};
-ghost use Rattle.trace_lines.specs.TraceLines.{word_of, letters_of, greatest, number_if, number_of, is_dash, line_of, word_text, or_dash_text, flag_text, field_text, joined, line_text, Wrote};
+ghost use Rattle.trace_lines.specs.TraceLines.{word_of, letters_of, greatest, number_of, is_dash, line_of, word_text, or_dash_text, flag_text, field_text, joined, line_text, Wrote};
 ghost use Rattle.trace_lines.specs.Private.{read_as, read_kind, tab_before};
 
 // The kinds of lines that are read.
@@ -83,7 +84,8 @@ const KINDS: [InputKind; 34] = [
     InputKind::Refresh,
 ];
 
-// A line that is read: its kind and the numbers in its fields. `dash` says that the field for an IEEE address is `-`.
+// A line that is read: its kind and the numbers in its fields. `dash` says that the field for an IEEE address is `-`. It is a flag, since one field of a line
+// at most may be a dash: as options all twenty numbers would be.
 #[derive(Clone, Copy)]
 pub struct InputLine {
     pub kind: InputKind,
@@ -178,12 +180,6 @@ fn most(letter: u8) -> u32
     }
 }
 
-fn number_if(test: bool, n: u64) -> Option<u64>
-    ensures { result ≡ number_if test n }
-{
-    if test { Some(n) } else { None }
-}
-
 // The number of an IEEE address, and 0 for the dash that stands for none.
 fn read_or_dash(f: &[u8]) -> Option<u64>
     ensures { result ≡ cond (same_text f.now (bytes "-")) (Some 0) (hex_of 16 f.now) }
@@ -204,8 +200,8 @@ fn read_number(letter: u8, f: &[u8]) -> Option<u64>
         b'4' => text::hex(f, 4),
         b'G' => text::hex(f, 16),
         b'o' => read_or_dash(f),
-        b'2' => number_if(f == b"2".as_slice(), 2),
-        b'3' => number_if(f == b"3".as_slice(), 3),
+        b'2' => (f == b"2".as_slice()).then_some(2),
+        b'3' => (f == b"3".as_slice()).then_some(3),
         _ => text::decimal(f, most(letter)),
     }
 }
@@ -455,7 +451,7 @@ fn write_fields(out: &mut [u8], start: usize, line: &[Field]) -> usize
 // Writes a line at a place, as far as it fits, and returns its length. A line has at most 20 fields, and so at most 420 bytes; no more are written.
 #[tactic(auto, unfolding(crate::specs::TraceLines::line_text))]
 pub fn write_line(out: &mut [u8], at: u16, line: &[Field]) -> usize
-    ensures { Wrote out.old at out.new result (line_text line.now) }
+    ensures { (result ≡ length (line_text line.now)) × (out.new ≡ sets out.old at (line_text line.now)) }
 {
     let start = usize::from(at);
     let n = write_fields(out, start, lists::in_use(line, 20));

@@ -6,6 +6,7 @@ use filter::Failed;
 
 const NAME: [u8; 14] = *b"yardlist_cases";
 
+// Prints, under the program's own name.
 fn print(rt: &HostRuntime, bytes: &[u8]) -> Result<(), Failed> {
     filter::write(rt, &NAME, bytes)
 }
