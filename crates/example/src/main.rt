@@ -254,7 +254,7 @@ fn name(event: Event) -> &'static [u8] {
     }
 }
 
-// What the owner's call answers; the near router is none of his.
+// What the owner's call answers; the near router, which is no call of his, has none.
 fn start(state: State, event: Event) -> Option<Answer> {
     match event {
         Event::Discovery => Some(state.start_discovery(CHANNELS)),
