@@ -4,3 +4,4 @@ pub mod Numbers
 pub mod Powers
 pub mod Decimals
 pub mod Sizes
+pub mod Written

@@ -1,3 +1,5 @@
 -- The definitions of `text`.
 pub mod Text
+pub mod Writer
 pub mod Statement
+pub mod Private
