@@ -54,6 +54,11 @@ no_text w = λ i. record { out = w.out; at = at i }
 -- for texts in turn
 pub ruleset in_turn = (text_behind, no_text, append_assoc)
 
+-- the buffer is the one that was lent
+pub same_buffer : (w : Writer) (t : List ℕ) → (with_text w t).out.ghost_name ≡ w.out.ghost_name
+unfolding with_text
+same_buffer w t = refl
+
 -- a text that fits, written from the start of a buffer
 pub from_start : (w : Writer) (t : List ℕ) → w.at ≡ 0 → length t ≤ length w.out.now → ((with_text w t).at ≡ length t) × ((with_text w t).out.now ≡ over w.out.now t)
 unfolding with_text

@@ -9,8 +9,9 @@ use lib.Dec.{eqb}
 use lib.ListN.{length, take, get_or, length-append, length-map, length-take}
 use lib.Seq.{length-take-le}
 use Rattle.lists.specs.Lists.{All}
-use Rattle.lists.proofs.Lists.{take_next}
+use Rattle.lists.proofs.Lists.{take_next, over-take}
 use Rattle.text.proofs.Numbers.{decimal-long, hex-long}
+use Rattle.text.proofs.Written.{in_turn, from_start, same_buffer}
 use Rattle.trace_lines.specs.declared.Field.{Field}
 use Rattle.trace_lines.specs.declared.Word.{Word}
 use Rattle.trace_lines.specs.declared.Word.TheVariants.{E, Node, F, Refused, Scan, Associate, Transmit, Poll, Receive, SetChannel, SetAddress, Reset, Discovered, D, DiscoveryFailed, Confirm, SendAnswer, PollAnswer, Negotiated, KeepaliveAnswer, Expired, LeaveIndication, StatusIndication, Nothing, Candidates, RejoinResponse, TimeoutResponse, End, DataFrame, RejoinRequest, TimeoutRequest, Leave, Success, InvalidRequest, NotPermitted, NoNetworks, PanAtCapacity, PanAccessDenied, MacError, Ok, NotJoined, ParentLinkFailure, PolledData, PolledNothing, Undecodable, Bad, Done}
@@ -133,9 +134,15 @@ fields-next line i d h =
     ∙ sym (joined_snoc ts (field_text (get_or line i d)))
     ∙ ap joined (sym (ap (map field_text) (take_next line i d h) ∙ map-append field_text (take i line) (get_or line i d ∷ [])))
 
+-- for the fields of a line in turn
+pub ruleset field_by_field = (in_turn, fields-next)
+
 -- a line that is written has at most 420 bytes
 pub line-short : (line : List Field) → length (line_text line) ≤ 420
 unfolding line_text
 line-short line =
     let fs = take 20 line in
     omega (arith, length-append (joined (map field_text fs)) (10 ∷ []), joined-long (map field_text fs) (texts-short fs), length-map fs field_text, length-take 20 line)
+
+-- for a line that is written by itself
+pub ruleset by_itself = (from_start, same_buffer, line-short, over-take)

@@ -1,8 +1,7 @@
 -- A line of a trace: read as a kind and numbers (compare/FORMAT.md, "Input: the state" and "Input: calls"), and written from typed fields ("Output").
 -- A text is the list of its bytes; 9 is the tab, 10 the line feed.
-use Rattle.std.specs.Prelude.{◌≡◌, ℕ, Bool, cond, ◌&&◌, Option, Some, None, is_some, unwrap_or, eqb, length, take, drop, get_or, replicate}
+use Rattle.std.specs.Prelude.{ℕ, Bool, cond, ◌&&◌, Option, Some, None, is_some, unwrap_or, eqb, length, take, drop, get_or, replicate}
 use Rattle.std.specs.Bool.{then_some}
-use Rattle.std.proofs.lemmas.List.Edits.{sets}
 use Prim.Native.Char.{code}
 use mathlib.Core.List.{List, [], ◌∷◌, ◌++◌, map, zip_with, flat_map}
 use Rattle.lists.specs.Lists.{every, some, over}
@@ -247,7 +246,3 @@ joined (t ∷ ts) = t ++ flat_map (λ u. 9 ∷ u) ts
 -- a line's text: that of its fields, of which it has at most 20
 unfoldable pub line_text : List Field → List ℕ
 line_text line = joined (map field_text (take 20 line)) ++ (10 ∷ [])
-
--- a text is written at a place of a buffer, as far as it fits: what the buffer was and is, and the length that is answered
-abbrev pub Wrote : List ℕ → ℕ → List ℕ → ℕ → List ℕ → Type 0
-Wrote o at p n t = (n ≡ length t) × (p ≡ sets o at t)

@@ -3,9 +3,13 @@
 
 ghost use Rattle.std.specs.Prelude.{◌≡◌, ◌++◌, cond, ◌≤◌, length, map};
 ghost use Rattle.std.proofs.lemmas.List.Edits.{sets};
+ghost use Rattle.lists.specs.Lists.{over};
 ghost use Rattle.text.specs.Text.{bytes, fields, same_text, hex_of, hex_text};
-ghost use Rattle.trace_lines.specs.TraceLines.{word_of, letters_of, greatest, number_of, is_dash, line_of, word_text, or_dash_text, flag_text, field_text, joined, line_text, Wrote};
+ghost use Rattle.text.specs.Writer.{with_text};
+ghost use Rattle.trace_lines.specs.TraceLines.{word_of, letters_of, greatest, number_of, is_dash, line_of, word_text, or_dash_text, flag_text, field_text, joined, line_text};
 ghost use Rattle.trace_lines.specs.Private.{read_as, read_kind, tab_before};
+
+use text::writer::Writer;
 
 // The kinds of lines that are read.
 #[derive(Clone, Copy)]
@@ -383,77 +387,84 @@ impl Word {
 }
 
 // Writes an IEEE address, or the dash that stands for none.
-fn write_or_dash(out: &mut [u8], at: usize, n: Option<u64>) -> usize
-    ensures { Wrote out.old at out.new result (or_dash_text n) }
+fn write_or_dash(out: &mut Writer, n: Option<u64>)
+    ensures { out.new ≡ with_text out.old (or_dash_text n) }
 {
     match n {
-        None => text::write(out, at, b"-"),
-        Some(n) => text::write_hex(out, at, n, 16),
+        None => out.write(b"-"),
+        Some(n) => out.write_hex(n, 16),
     }
 }
 
 // Writes a flag: 1 or 0.
-fn write_flag(out: &mut [u8], at: usize, flag: bool) -> usize
-    ensures { Wrote out.old at out.new result (flag_text flag) }
+fn write_flag(out: &mut Writer, flag: bool)
+    ensures { out.new ≡ with_text out.old (flag_text flag) }
 {
-    let digit = if flag { b"1" } else { b"0" };
-    text::write(out, at, digit)
+    out.write(if flag { b"1" } else { b"0" });
 }
 
 // Writes a field.
-fn write_field(out: &mut [u8], at: usize, field: Field) -> usize
-    ensures { Wrote out.old at out.new result (field_text field) }
+fn write_field(out: &mut Writer, field: Field)
+    ensures { out.new ≡ with_text out.old (field_text field) }
 {
     match field {
-        Field::Word(word) => text::write(out, at, word.text()),
-        Field::Short(n) => text::write_hex(out, at, u64::from(n), 4),
-        Field::Long(n) => text::write_hex(out, at, n, 16),
-        Field::OrDash(n) => write_or_dash(out, at, n),
-        Field::Flag(flag) => write_flag(out, at, flag),
-        Field::U8(n) => text::write_decimal(out, at, u32::from(n)),
-        Field::U16(n) => text::write_decimal(out, at, u32::from(n)),
-        Field::U32(n) => text::write_decimal(out, at, n),
+        Field::Word(word) => out.write(word.text()),
+        Field::Short(n) => out.write_hex(u64::from(n), 4),
+        Field::Long(n) => out.write_hex(n, 16),
+        Field::OrDash(n) => write_or_dash(out, n),
+        Field::Flag(flag) => write_flag(out, flag),
+        Field::U8(n) => out.write_decimal(u32::from(n)),
+        Field::U16(n) => out.write_decimal(u32::from(n)),
+        Field::U32(n) => out.write_decimal(n),
     }
 }
 
 // Writes the tab before field i; the first field has none.
-fn write_tab(out: &mut [u8], at: usize, i: usize) -> usize
-    ensures { Wrote out.old at out.new result (tab_before i) }
+#[tactic(auto, using(text::proofs::Written::in_turn))]
+fn write_tab(out: &mut Writer, i: usize)
+    ensures { out.new ≡ with_text out.old (tab_before i) }
 {
     if i == 0 {
-        return 0;
+        return;
     }
-    text::write(out, at, b"\t")
-}
-
-// Writes field i with the tab before it.
-fn write_next(out: &mut [u8], at: usize, i: usize, field: Field) -> usize
-    requires { at ≤ 100000 }
-    ensures { Wrote out.old at out.new result (tab_before i ++ field_text field) }
-{
-    let tab = write_tab(out, at, i);
-    tab + write_field(out, at + tab, field)
+    out.write(b"\t");
 }
 
 // Writes the fields of a line.
-fn write_fields(out: &mut [u8], start: usize, line: &[Field]) -> usize
-    requires room { start ≤ 65535 }
-    requires few { length line.now ≤ 20 }
-    ensures { Wrote out.old start out.new result (joined (map field_text line.now)) }
+#[tactic(auto, using(crate::proofs::Texts::field_by_field), unfolding(crate::specs::TraceLines::joined))]
+fn write_fields(out: &mut Writer, line: &[Field])
+    ensures { out.new ≡ with_text out.old (joined (map field_text line.now)) }
 {
-    let mut written = 0;
     for (i, field) in line.iter().enumerate() {
-        written += write_next(out, start + written, i, *field);
+        write_tab(out, i);
+        write_field(out, *field);
     }
-    written
 }
 
-// Writes a line at a place, as far as it fits, and returns its length. A line has at most 20 fields, and so at most 420 bytes; no more are written.
-#[tactic(auto, unfolding(crate::specs::TraceLines::line_text))]
+// Writes a line behind what is written, as far as it fits. A line has at most 20 fields, and so at most 420 bytes; no more are written.
+pub fn put_line(out: &mut Writer, line: &[Field])
+    ensures { out.new ≡ with_text out.old (line_text line.now) }
+{
+    write_fields(out, lists::in_use(line, 20));
+    out.write(b"\n");
+}
+
+// Writes a line at the start of bytes that are enough for any, and returns its length.
+#[tactic(auto, using(crate::proofs::Texts::by_itself))]
+fn fill_line(bytes: &mut [u8; 420], line: &[Field]) -> usize
+    ensures { (result ≡ length (line_text line.now)) × (bytes.new ≡ over bytes.old (line_text line.now)) }
+{
+    let mut out = Writer::new(bytes);
+    put_line(&mut out, line);
+    out.place()
+}
+
+// Writes a line at a place of a buffer, as far as it fits, and returns its length.
+#[tactic(auto, using(crate::proofs::Texts::by_itself))]
 pub fn write_line(out: &mut [u8], at: u16, line: &[Field]) -> usize
     ensures { (result ≡ length (line_text line.now)) × (out.new ≡ sets out.old at (line_text line.now)) }
 {
-    let start = usize::from(at);
-    let n = write_fields(out, start, lists::in_use(line, 20));
-    n + text::write(out, start + n, b"\n")
+    let mut bytes = [0; 420];
+    let length = fill_line(&mut bytes, line);
+    text::write(out, usize::from(at), &bytes[..length])
 }

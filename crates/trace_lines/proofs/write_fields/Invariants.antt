@@ -1,10 +1,10 @@
 use mathlib.Core.Path.{◌≡◌}
 use mathlib.Core.List.{map}
-use lib.ListN.{length, take}
-use lib.Seq.{sets}
+use lib.ListN.{take}
+use Rattle.text.specs.Writer.{with_text}
 use Rattle.trace_lines.specs.TraceLines.{field_text, joined}
 use Rattle.trace_lines.proofs.write_fields.Given as goal
 
--- after i fields the buffer has their texts, with a tab between each two, and `written` is how long they are
+-- after i fields their texts are written, with a tab between each two
 abbrev pub invariant-loop-i : goal.invariant-loop-i
-invariant-loop-i l = (l.written ≡ length (joined (map field_text (take l.i l.line)))) × (l.out ≡ sets l.initial.out l.start (joined (map field_text (take l.i l.line))))
+invariant-loop-i l = l.out ≡ with_text l.initial.out (joined (map field_text (take l.i l.line)))
