@@ -1,4 +1,3 @@
 -- The definitions of `trace`.
 pub mod Lines
 pub mod Trace
-pub mod Private

@@ -4,9 +4,11 @@
 ghost use Rattle.std.specs.Prelude.{◌≡◌, ◌+◌, ◌*◌, ◌≤◌, min, length, option_map};
 ghost use mathlib.Core.List.{[], ◌∷◌};
 ghost use Rattle.lists.specs.Lists.{over};
+ghost use Rattle.nib.specs.Neighbors.{entries_of};
 ghost use Rattle.candidates.specs.Candidates.{items_of};
-ghost use Rattle.trace_lines.specs.TraceLines.{Wrote};
-ghost use Rattle.trace.specs.Private.{WroteLine, WroteSome, WroteLines};
+ghost use Rattle.node.specs.Calls.{page_answer};
+ghost use Rattle.text.specs.Writer.{with_text};
+ghost use Rattle.trace_lines.specs.TraceLines.{line_text};
 ghost use Rattle.trace.specs.Lines.{
   Line,
   word_line,
@@ -30,7 +32,6 @@ ghost use Rattle.trace.specs.Lines.{
   command_line,
   command_frame_line,
   transmit_line,
-  poll_line,
   request_line,
   status_word,
   send_word,
@@ -45,7 +46,7 @@ ghost use Rattle.trace.specs.Lines.{
   choice_line,
   bad_line,
 };
-ghost use Rattle.trace.specs.Trace.{networks_of, network_count, each_line, told_lines, nlme_lines, state_lines, page_text, text_of, is_bad, turn_of, number_after, printed, after};
+ghost use Rattle.trace.specs.Trace.{some_text, lines_text, networks_of, network_count, each_line, told_lines, nlme_lines, state_lines, page_bytes, page_text, text_of, is_bad, turn_of, number_after, printed, after};
 
 use candidates::CandidateList;
 use discovery::{NetworkDescriptor, NlmeNetworkDiscoveryConfirm};
@@ -55,13 +56,14 @@ use management::{
     NlmeJoinStatus, NlmeLeaveIndication, NlmeNwkStatusIndication, PollAnswer, RejoinResponse,
     ScanRange, SendAnswer, Signals,
 };
-use nib::{DeviceType, Nib, NwkNeighbor, PanId, ShortAddress};
-use nlme::Nlme;
+use nib::{DeviceType, NeighborTable, Nib, NwkNeighbor};
+use nlme::{Nlme, Transmission};
 use node::State;
 use operation::{AssociateRequest, Note, RadioRequest, Refusal, Step};
 use supervision::TransmitFailure;
+use text::writer::Writer;
 use trace_calls::{Answered, Said, Session, Turn};
-use trace_lines::{Field, Word};
+use trace_lines::{Field, Word, put_line};
 
 // The session after the lines so far, how many they were, whether the last of them was of the format, and how many bytes it printed.
 #[derive(Clone, Copy)]
@@ -72,31 +74,20 @@ pub struct Run {
     pub length: usize,
 }
 
-// What a node answers, as lines. Each function writes at a place of a buffer, as far as it fits, and returns how long it is.
-
-// A line by its fields.
-fn print_line(out: &mut [u8], at: usize, line: &[Field]) -> usize
-    requires { at ≤ 16000 }
-    ensures { WroteLine out.old at out.new result line.now }
-{
-    trace_lines::write_line(out, at as u16, line)
-}
+// What a node answers, as lines, each written behind those before it.
 
 // A line of a word alone.
-fn print_word(out: &mut [u8], at: usize, word: Word) -> usize
-    requires { at ≤ 16000 }
-    ensures { WroteLine out.old at out.new result (word_line word) }
+fn print_word(out: &mut Writer, word: Word)
+    ensures { out.new ≡ with_text out.old (line_text (word_line word)) }
 {
-    print_line(out, at, &[Field::Word(word)])
+    put_line(out, &[Field::Word(word)])
 }
 
-fn print_refusal(out: &mut [u8], at: usize, refusal: Refusal) -> usize
-    requires { at ≤ 16000 }
-    ensures { WroteLine out.old at out.new result (refusal_line refusal) }
+fn print_refusal(out: &mut Writer, refusal: Refusal)
+    ensures { out.new ≡ with_text out.old (line_text (refusal_line refusal)) }
 {
-    print_line(
+    put_line(
         out,
-        at,
         &[Field::Word(Word::Refused), Field::U8(refusal.number())],
     )
 }
@@ -106,41 +97,37 @@ trait Printed: Copy {
     // the fields of its line
     ghost line: { Self → Line };
 
-    fn print(self, out: &mut [u8], at: usize) -> usize
-        requires { at ≤ 16000 }
-        ensures { WroteLine out.old at out.new result (line self) };
+    fn print(self, out: &mut Writer)
+        ensures { out.new ≡ with_text out.old (line_text (line self)) };
 }
 
 // What may be there; nothing where it isn't.
-fn print_some<T: Printed>(out: &mut [u8], at: usize, slot: Option<T>) -> usize
-    requires { at ≤ 16000 }
-    ensures { WroteSome out.old at out.new result (option_map T.line slot) }
+#[tactic(auto, using(text::proofs::Written::in_turn))]
+fn print_some<T: Printed>(out: &mut Writer, slot: Option<T>)
+    ensures { out.new ≡ with_text out.old (some_text (option_map T.line slot)) }
 {
     match slot {
-        Some(x) => x.print(out, at),
-        None => 0,
+        Some(x) => x.print(out),
+        None => {}
     }
 }
 
 // Each element of a list.
-fn print_each<T: Printed>(out: &mut [u8], at: usize, items: &[T]) -> usize
-    requires { at + 420 * length items.now ≤ 16000 }
-    ensures { WroteLines out.old at out.new result (each_line T.line items.now) }
+#[tactic(auto, using(crate::proofs::Lists::each_by_each))]
+fn print_each<T: Printed>(out: &mut Writer, items: &[T])
+    ensures { out.new ≡ with_text out.old (lines_text (each_line T.line items.now)) }
 {
-    let mut written = 0;
     for x in items {
-        written += x.print(out, at + written);
+        x.print(out);
     }
-    written
 }
 
 // The line of a node, from its attributes, sequence number, pending timeout request and timer.
-fn print_nib(out: &mut [u8], nib: Nib, nwk_seq: u8, pending: u8, timer: u32) -> usize
-    ensures { WroteLine out.old 0 out.new result (nib_line nib nwk_seq pending timer) }
+fn print_nib(out: &mut Writer, nib: Nib, nwk_seq: u8, pending: u8, timer: u32)
+    ensures { out.new ≡ with_text out.old (line_text (nib_line nib nwk_seq pending timer)) }
 {
-    print_line(
+    put_line(
         out,
-        0,
         &[
             Field::Word(Word::Node),
             Field::Short(nib.network_address.0),
@@ -161,8 +148,8 @@ fn print_nib(out: &mut [u8], nib: Nib, nwk_seq: u8, pending: u8, timer: u32) -> 
     )
 }
 
-fn print_node(out: &mut [u8], nlme: Nlme) -> usize
-    ensures { WroteLine out.old 0 out.new result (node_line nlme) }
+fn print_node(out: &mut Writer, nlme: Nlme)
+    ensures { out.new ≡ with_text out.old (line_text (node_line nlme)) }
 {
     let seq = nlme.nwk_seq;
     let pending = nlme.pending_timeout_request;
@@ -185,10 +172,9 @@ fn device_type_number(t: DeviceType) -> u8
 impl Printed for NwkNeighbor {
     ghost line = { entry_line };
 
-    fn print(self, out: &mut [u8], at: usize) -> usize {
-        print_line(
+    fn print(self, out: &mut Writer) {
+        put_line(
             out,
-            at,
             &[
                 Field::Word(Word::E),
                 Field::Long(self.extended_address.0),
@@ -218,10 +204,9 @@ impl Printed for NwkNeighbor {
 impl Printed for TransmitFailure {
     ghost line = { failure_line };
 
-    fn print(self, out: &mut [u8], at: usize) -> usize {
-        print_line(
+    fn print(self, out: &mut Writer) {
+        put_line(
             out,
-            at,
             &[
                 Field::Word(Word::F),
                 Field::Short(self.address.0),
@@ -234,10 +219,9 @@ impl Printed for TransmitFailure {
 impl Printed for RejoinResponse {
     ghost line = { rejoin_response_line };
 
-    fn print(self, out: &mut [u8], at: usize) -> usize {
-        print_line(
+    fn print(self, out: &mut Writer) {
+        put_line(
             out,
-            at,
             &[
                 Field::Word(Word::RejoinResponse),
                 Field::Short(self.network_address.0),
@@ -250,10 +234,9 @@ impl Printed for RejoinResponse {
 impl Printed for EndDeviceTimeoutResponse {
     ghost line = { timeout_response_line };
 
-    fn print(self, out: &mut [u8], at: usize) -> usize {
-        print_line(
+    fn print(self, out: &mut Writer) {
+        put_line(
             out,
-            at,
             &[
                 Field::Word(Word::TimeoutResponse),
                 Field::U8(self.status),
@@ -276,10 +259,9 @@ fn device_field(device: LeavingDevice) -> Field
 impl Printed for NlmeLeaveIndication {
     ghost line = { leave_line };
 
-    fn print(self, out: &mut [u8], at: usize) -> usize {
-        print_line(
+    fn print(self, out: &mut Writer) {
+        put_line(
             out,
-            at,
             &[
                 Field::Word(Word::LeaveIndication),
                 device_field(self.device),
@@ -292,10 +274,9 @@ impl Printed for NlmeLeaveIndication {
 impl Printed for NlmeNwkStatusIndication {
     ghost line = { status_line };
 
-    fn print(self, out: &mut [u8], at: usize) -> usize {
-        print_line(
+    fn print(self, out: &mut Writer) {
+        put_line(
             out,
-            at,
             &[
                 Field::Word(Word::StatusIndication),
                 Field::Short(self.network_address.0),
@@ -305,45 +286,37 @@ impl Printed for NlmeNwkStatusIndication {
 }
 
 // The slots that are full, and the end of a state.
-fn print_slots(out: &mut [u8], at: usize, signals: Signals) -> usize
-    requires { at ≤ 14000 }
-    ensures { WroteLines out.old at out.new result (slot_lines signals) }
+#[tactic(auto, using(crate::proofs::Lists::line_by_line))]
+fn print_slots(out: &mut Writer, signals: Signals)
+    ensures { out.new ≡ with_text out.old (lines_text (slot_lines signals)) }
 {
-    let rejoin = print_some(out, at, signals.rejoin_response);
-    let timeout = print_some(out, at + rejoin, signals.timeout_response);
-    let two = rejoin + timeout;
-    let leave = print_some(out, at + two, signals.leave_indication);
-    let three = two + leave;
-    let status = print_some(out, at + three, signals.nwk_status_indication);
-    let four = three + status;
-    four + print_word(out, at + four, Word::End)
+    print_some(out, signals.rejoin_response);
+    print_some(out, signals.timeout_response);
+    print_some(out, signals.leave_indication);
+    print_some(out, signals.nwk_status_indication);
+    print_word(out, Word::End);
 }
 
-fn print_reset(out: &mut [u8], reset: bool) -> usize
-    ensures { WroteSome out.old 0 out.new result (reset_line reset) }
+#[tactic(auto, using(text::proofs::Written::in_turn))]
+fn print_reset(out: &mut Writer, reset: bool)
+    ensures { out.new ≡ with_text out.old (some_text (reset_line reset)) }
 {
     if reset {
-        return print_word(out, 0, Word::Reset);
+        print_word(out, Word::Reset);
     }
-    0
 }
 
 impl Printed for Note {
     ghost line = { note_line };
 
-    fn print(self, out: &mut [u8], at: usize) -> usize {
+    fn print(self, out: &mut Writer) {
         match self {
             Note::SetChannel(channel) => {
-                print_line(
-                    out,
-                    at,
-                    &[Field::Word(Word::SetChannel), Field::U8(channel)],
-                )
+                put_line(out, &[Field::Word(Word::SetChannel), Field::U8(channel)])
             }
             Note::SetAddress(address) => {
-                print_line(
+                put_line(
                     out,
-                    at,
                     &[Field::Word(Word::SetAddress), Field::Short(address.0)],
                 )
             }
@@ -351,13 +324,11 @@ impl Printed for Note {
     }
 }
 
-fn print_scan(out: &mut [u8], at: usize, range: ScanRange) -> usize
-    requires { at ≤ 16000 }
-    ensures { WroteLine out.old at out.new result (scan_line range) }
+fn print_scan(out: &mut Writer, range: ScanRange)
+    ensures { out.new ≡ with_text out.old (line_text (scan_line range)) }
 {
-    print_line(
+    put_line(
         out,
-        at,
         &[
             Field::Word(Word::Scan),
             Field::U8(range.first),
@@ -367,14 +338,12 @@ fn print_scan(out: &mut [u8], at: usize, range: ScanRange) -> usize
     )
 }
 
-fn print_associate(out: &mut [u8], at: usize, request: AssociateRequest) -> usize
-    requires { at ≤ 16000 }
-    ensures { WroteLine out.old at out.new result (associate_line request) }
+fn print_associate(out: &mut Writer, request: AssociateRequest)
+    ensures { out.new ≡ with_text out.old (line_text (associate_line request)) }
 {
     let c = request.capabilities;
-    print_line(
+    put_line(
         out,
-        at,
         &[
             Field::Word(Word::Associate),
             Field::U8(request.channel),
@@ -389,23 +358,15 @@ fn print_associate(out: &mut [u8], at: usize, request: AssociateRequest) -> usiz
     )
 }
 
-fn print_data(
-    out: &mut [u8],
-    at: usize,
-    pan_id: PanId,
-    address: ShortAddress,
-    h: DataHeader,
-) -> usize
-    requires { at ≤ 16000 }
-    ensures { WroteLine out.old at out.new result (data_line pan_id address h) }
+fn print_data(out: &mut Writer, t: Transmission, h: DataHeader)
+    ensures { out.new ≡ with_text out.old (line_text (data_line t.pan_id t.address h)) }
 {
-    print_line(
+    put_line(
         out,
-        at,
         &[
             Field::Word(Word::Transmit),
-            Field::Short(pan_id.0),
-            Field::Short(address.0),
+            Field::Short(t.pan_id.0),
+            Field::Short(t.address.0),
             Field::Word(Word::DataFrame),
             Field::Short(h.destination.0),
             Field::Short(h.source.0),
@@ -417,19 +378,18 @@ fn print_data(
 
 // A command frame: its word, its header, and two fields that it carries.
 fn command_fields(
-    pan_id: PanId,
-    address: ShortAddress,
+    t: Transmission,
     h: CommandHeader,
     word: Word,
     first: Field,
     second: Field,
 ) -> [Field; 12]
-    ensures { result ≡ command_line pan_id address h word (first ∷ second ∷ []) }
+    ensures { result ≡ command_line t.pan_id t.address h word (first ∷ second ∷ []) }
 {
     [
         Field::Word(Word::Transmit),
-        Field::Short(pan_id.0),
-        Field::Short(address.0),
+        Field::Short(t.pan_id.0),
+        Field::Short(t.address.0),
         Field::Word(word),
         Field::Short(h.destination.0),
         Field::OrDash(h.destination_ieee.map(|ieee| ieee.0)),
@@ -443,94 +403,59 @@ fn command_fields(
 }
 
 // A command frame that carries one field.
-fn print_request_frame(
-    out: &mut [u8],
-    at: usize,
-    pan_id: PanId,
-    address: ShortAddress,
-    h: CommandHeader,
-    word: Word,
-    carried: u8,
-) -> usize
-    requires { at ≤ 16000 }
-    ensures { WroteLine out.old at out.new result (command_line pan_id address h word (Field.U8 carried ∷ [])) }
+fn print_request_frame(out: &mut Writer, t: Transmission, h: CommandHeader, word: Word, carried: u8)
+    ensures { out.new ≡ with_text out.old (line_text (command_line t.pan_id t.address h word (Field.U8 carried ∷ []))) }
 {
-    let fields = command_fields(pan_id, address, h, word, Field::U8(carried), Field::U8(0));
-    print_line(out, at, &fields[..11])
+    let fields = command_fields(t, h, word, Field::U8(carried), Field::U8(0));
+    put_line(out, &fields[..11])
 }
 
-fn print_command_frame(
-    out: &mut [u8],
-    at: usize,
-    pan_id: PanId,
-    address: ShortAddress,
-    h: CommandHeader,
-    command: SentCommand,
-) -> usize
-    requires { at ≤ 16000 }
-    ensures { WroteLine out.old at out.new result (command_frame_line pan_id address h command) }
+fn print_command_frame(out: &mut Writer, t: Transmission, h: CommandHeader, command: SentCommand)
+    ensures { out.new ≡ with_text out.old (line_text (command_frame_line t.pan_id t.address h command)) }
 {
     match command {
-        SentCommand::RejoinRequest(c) => {
-            print_request_frame(out, at, pan_id, address, h, Word::RejoinRequest, c.0)
-        }
+        SentCommand::RejoinRequest(c) => print_request_frame(out, t, h, Word::RejoinRequest, c.0),
         SentCommand::TimeoutRequest(index) => {
-            print_request_frame(out, at, pan_id, address, h, Word::TimeoutRequest, index)
+            print_request_frame(out, t, h, Word::TimeoutRequest, index)
         }
         SentCommand::Leave(options) => {
             let rejoin = Field::Flag(options.rejoin);
             let children = Field::Flag(options.remove_children);
-            let fields = command_fields(pan_id, address, h, Word::Leave, rejoin, children);
-            print_line(out, at, &fields)
+            let fields = command_fields(t, h, Word::Leave, rejoin, children);
+            put_line(out, &fields)
         }
     }
 }
 
 #[tactic(auto, unfolding(crate::specs::Lines::transmit_line))]
-fn print_transmit(
-    out: &mut [u8],
-    at: usize,
-    pan_id: PanId,
-    address: ShortAddress,
-    frame: SentFrame,
-) -> usize
-    requires { at ≤ 16000 }
-    ensures { WroteLine out.old at out.new result (transmit_line pan_id address frame) }
+fn print_transmit(out: &mut Writer, t: Transmission)
+    ensures { out.new ≡ with_text out.old (line_text (transmit_line t.pan_id t.address t.frame)) }
 {
-    match frame {
-        SentFrame::DataFrame(h) => print_data(out, at, pan_id, address, h),
-        SentFrame::CommandFrame(h, command) => {
-            print_command_frame(out, at, pan_id, address, h, command)
-        }
+    match t.frame {
+        SentFrame::DataFrame(h) => print_data(out, t, h),
+        SentFrame::CommandFrame(h, command) => print_command_frame(out, t, h, command),
     }
 }
 
-fn print_poll(out: &mut [u8], at: usize, pan_id: PanId, address: ShortAddress) -> usize
-    requires { at ≤ 16000 }
-    ensures { WroteLine out.old at out.new result (poll_line pan_id address) }
-{
-    print_line(
-        out,
-        at,
-        &[
-            Field::Word(Word::Poll),
-            Field::Short(pan_id.0),
-            Field::Short(address.0),
-        ],
-    )
-}
-
 #[tactic(auto, unfolding(crate::specs::Lines::request_line))]
-fn print_request(out: &mut [u8], at: usize, request: RadioRequest) -> usize
-    requires { at ≤ 16000 }
-    ensures { WroteLine out.old at out.new result (request_line request) }
+fn print_request(out: &mut Writer, request: RadioRequest)
+    ensures { out.new ≡ with_text out.old (line_text (request_line request)) }
 {
     match request {
-        RadioRequest::Scan(range) => print_scan(out, at, range),
-        RadioRequest::Associate(asked) => print_associate(out, at, asked),
-        RadioRequest::Transmit(t) => print_transmit(out, at, t.pan_id, t.address, t.frame),
-        RadioRequest::Poll(pan_id, address) => print_poll(out, at, pan_id, address),
-        RadioRequest::Receive => print_word(out, at, Word::Receive),
+        RadioRequest::Scan(range) => print_scan(out, range),
+        RadioRequest::Associate(asked) => print_associate(out, asked),
+        RadioRequest::Transmit(t) => print_transmit(out, t),
+        RadioRequest::Poll(pan_id, address) => {
+            put_line(
+                out,
+                &[
+                    Field::Word(Word::Poll),
+                    Field::Short(pan_id.0),
+                    Field::Short(address.0),
+                ],
+            )
+        }
+        RadioRequest::Receive => print_word(out, Word::Receive),
     }
 }
 
@@ -591,13 +516,11 @@ fn keepalive_word(a: KeepaliveAnswer) -> Word
     }
 }
 
-fn print_confirm(out: &mut [u8], at: usize, c: NlmeJoinConfirm) -> usize
-    requires { at ≤ 16000 }
-    ensures { WroteLine out.old at out.new result (confirm_line c) }
+fn print_confirm(out: &mut Writer, c: NlmeJoinConfirm)
+    ensures { out.new ≡ with_text out.old (line_text (confirm_line c)) }
 {
-    print_line(
+    put_line(
         out,
-        at,
         &[
             Field::Word(Word::Confirm),
             Field::Word(status_word(c.status)),
@@ -609,62 +532,53 @@ fn print_confirm(out: &mut [u8], at: usize, c: NlmeJoinConfirm) -> usize
 }
 
 // An answer's word, and what is answered.
-fn print_answer(out: &mut [u8], at: usize, word: Word, answer: Field) -> usize
-    requires { at ≤ 16000 }
-    ensures { WroteLine out.old at out.new result (Field.Word word ∷ answer ∷ []) }
+fn print_answer(out: &mut Writer, word: Word, answer: Field)
+    ensures { out.new ≡ with_text out.old (line_text (Field.Word word ∷ answer ∷ [])) }
 {
-    print_line(out, at, &[Field::Word(word), answer])
+    put_line(out, &[Field::Word(word), answer])
 }
 
 // What was taken, or that the slot was empty.
-fn print_taken<T: Printed>(out: &mut [u8], at: usize, slot: Option<T>) -> usize
-    requires { at ≤ 16000 }
-    ensures { WroteLine out.old at out.new result (taken_line T.line slot) }
+fn print_taken<T: Printed>(out: &mut Writer, slot: Option<T>)
+    ensures { out.new ≡ with_text out.old (line_text (taken_line T.line slot)) }
 {
     match slot {
-        Some(x) => x.print(out, at),
-        None => print_word(out, at, Word::Nothing),
+        Some(x) => x.print(out),
+        None => print_word(out, Word::Nothing),
     }
 }
 
 // The request, confirm, answer or refusal of a call, with the number of networks that a discovery found.
-#[tactic(auto, unfolding(crate::specs::Lines::step_line))]
-fn print_step(out: &mut [u8], at: usize, step: Step, discovered: u8) -> usize
-    requires { at ≤ 16000 }
-    ensures { WroteSome out.old at out.new result (step_line step discovered) }
+#[tactic(auto, using(text::proofs::Written::in_turn), unfolding(crate::specs::Lines::step_line))]
+fn print_step(out: &mut Writer, step: Step, discovered: u8)
+    ensures { out.new ≡ with_text out.old (some_text (step_line step discovered)) }
 {
     match step {
-        Step::Refused(refusal) => print_refusal(out, at, refusal),
-        Step::Ask(request) => print_request(out, at, request),
-        Step::Discovered => print_answer(out, at, Word::Discovered, Field::U8(discovered)),
-        Step::DiscoveryFailed => print_word(out, at, Word::DiscoveryFailed),
-        Step::Joined(confirm) => print_confirm(out, at, confirm),
-        Step::Sent(a) => print_answer(out, at, Word::SendAnswer, Field::Word(send_word(a))),
-        Step::Polled(a) => print_answer(out, at, Word::PollAnswer, Field::Word(poll_word(a))),
-        Step::NegotiationOver(a) => print_answer(out, at, Word::Negotiated, negotiation_field(a)),
+        Step::Refused(refusal) => print_refusal(out, refusal),
+        Step::Ask(request) => print_request(out, request),
+        Step::Discovered => print_answer(out, Word::Discovered, Field::U8(discovered)),
+        Step::DiscoveryFailed => print_word(out, Word::DiscoveryFailed),
+        Step::Joined(confirm) => print_confirm(out, confirm),
+        Step::Sent(a) => print_answer(out, Word::SendAnswer, Field::Word(send_word(a))),
+        Step::Polled(a) => print_answer(out, Word::PollAnswer, Field::Word(poll_word(a))),
+        Step::NegotiationOver(a) => print_answer(out, Word::Negotiated, negotiation_field(a)),
         Step::KeepaliveOver(a) => {
-            print_answer(
-                out,
-                at,
-                Word::KeepaliveAnswer,
-                Field::Word(keepalive_word(a)),
-            )
+            print_answer(out, Word::KeepaliveAnswer, Field::Word(keepalive_word(a)))
         }
-        Step::Expired(expired) => print_answer(out, at, Word::Expired, Field::Flag(expired)),
-        Step::LeaveTaken(slot) => print_taken(out, at, slot),
-        Step::StatusTaken(slot) => print_taken(out, at, slot),
-        Step::PageWritten => 0,
-        Step::Done => print_word(out, at, Word::Done),
+        Step::Expired(expired) => print_answer(out, Word::Expired, Field::Flag(expired)),
+        Step::LeaveTaken(slot) => print_taken(out, slot),
+        Step::StatusTaken(slot) => print_taken(out, slot),
+        Step::PageWritten => {}
+        Step::Done => print_word(out, Word::Done),
     }
 }
 
 impl Printed for NetworkDescriptor {
     ghost line = { descriptor_line };
 
-    fn print(self, out: &mut [u8], at: usize) -> usize {
-        print_line(
+    fn print(self, out: &mut Writer) {
+        put_line(
             out,
-            at,
             &[
                 Field::Word(Word::D),
                 Field::Long(self.extended_pan_id.0),
@@ -700,76 +614,81 @@ fn networks_of(networks: &Option<NlmeNetworkDiscoveryConfirm>) -> &[NetworkDescr
 {
     match networks {
         None => &[],
-        Some(confirm) => { lists::in_use(&confirm.network_descriptor, confirm.count as usize) }
+        Some(confirm) => lists::in_use(&confirm.network_descriptor, confirm.count as usize),
     }
 }
 
 // An answer: its reset note, its note, its step, and the networks that were found.
-fn print_told(out: &mut [u8], told: Answered) -> usize
-    ensures value { WroteLines out.old 0 out.new result (told_lines told) }
-    ensures short { result ≤ 16000 }
+#[tactic(auto, using(crate::proofs::Lists::line_by_line))]
+fn print_told(out: &mut Writer, told: Answered)
+    ensures value { out.new ≡ with_text out.old (lines_text (told_lines told)) }
+    ensures few { length (told_lines told) ≤ 30 }
 {
-    let reset = print_reset(out, told.reset);
-    let note = print_some(out, reset, told.note);
-    let notes = reset + note;
-    let step = print_step(out, notes, told.step, network_count(&told.networks));
-    let all = notes + step;
-    all + print_each(out, all, networks_of(&told.networks))
+    print_reset(out, told.reset);
+    print_some(out, told.note);
+    print_step(out, told.step, network_count(&told.networks));
+    print_each(out, networks_of(&told.networks));
 }
 
 // The candidates' indexes, as many fields as there are.
-fn print_candidates(out: &mut [u8], list: CandidateList) -> usize
-    ensures { WroteLine out.old 0 out.new result (candidates_line (items_of list)) }
+fn print_candidates(out: &mut Writer, list: CandidateList)
+    ensures { out.new ≡ with_text out.old (line_text (candidates_line (items_of list))) }
 {
     let used = lists::in_use(&list.indexes, list.count as usize);
     let mut fields = [Field::Word(Word::Candidates); 17];
     for (i, index) in used.iter().enumerate() {
         fields[i + 1] = Field::U8(*index);
     }
-    print_line(out, 0, &fields[..used.len() + 1])
+    put_line(out, &fields[..used.len() + 1])
 }
 
 // The answer to a choice of candidates.
-fn print_choice(out: &mut [u8], choice: Result<CandidateList, Refusal>) -> usize
-    ensures { WroteLine out.old 0 out.new result (choice_line choice) }
+fn print_choice(out: &mut Writer, choice: Result<CandidateList, Refusal>)
+    ensures { out.new ≡ with_text out.old (line_text (choice_line choice)) }
 {
     match choice {
         Ok(list) => print_candidates(out, list),
-        Err(refusal) => print_refusal(out, 0, refusal),
+        Err(refusal) => print_refusal(out, refusal),
     }
 }
 
 // The line that says that a line is not of the format, with its number.
-fn print_bad(out: &mut [u8], number: u32) -> usize
-    ensures { WroteLine out.old 0 out.new result (bad_line number) }
+fn print_bad(out: &mut Writer, number: u32)
+    ensures { out.new ≡ with_text out.old (line_text (bad_line number)) }
 {
-    print_line(out, 0, &[Field::Word(Word::Bad), Field::U32(number)])
+    put_line(out, &[Field::Word(Word::Bad), Field::U32(number)])
+}
+
+// The entries of a neighbour table.
+#[tactic(auto, using(crate::proofs::Lists::line_by_line))]
+fn print_table(out: &mut Writer, table: NeighborTable)
+    ensures value { out.new ≡ with_text out.old (lines_text (each_line entry_line (entries_of table))) }
+    ensures few { length (each_line entry_line (entries_of table)) ≤ 16 }
+{
+    print_each(out, table.used());
 }
 
 // What follows the entries of a state: the failure pairs, the slots that are full, and the end.
-fn print_nlme(out: &mut [u8], at: usize, nlme: Nlme) -> usize
-    requires { at ≤ 7200 }
-    ensures { WroteLines out.old at out.new result (nlme_lines nlme) }
+#[tactic(auto, using(crate::proofs::Lists::line_by_line))]
+fn print_nlme(out: &mut Writer, nlme: Nlme)
+    ensures value { out.new ≡ with_text out.old (lines_text (nlme_lines nlme)) }
+    ensures few { length (nlme_lines nlme) ≤ 21 }
 {
     let failures = nlme.transmit_failures;
-    let pairs = print_each(
-        out,
-        at,
-        lists::in_use(&failures.pairs, failures.count as usize),
-    );
-    pairs + print_slots(out, at + pairs, nlme.signals)
+    print_each(out, lists::in_use(&failures.pairs, failures.count as usize));
+    print_slots(out, nlme.signals);
 }
 
 // A state.
-fn print_state(out: &mut [u8], state: State) -> usize
-    ensures value { WroteLines out.old 0 out.new result (state_lines state) }
-    ensures short { result ≤ 16000 }
+#[tactic(auto, using(crate::proofs::Lists::line_by_line))]
+fn print_state(out: &mut Writer, state: State)
+    ensures value { out.new ≡ with_text out.old (lines_text (state_lines state)) }
+    ensures few { length (state_lines state) ≤ 38 }
 {
     let nlme = state.control.nlme;
-    let node = print_node(out, nlme);
-    let entries = print_each(out, node, state.table.used());
-    let all = node + entries;
-    all + print_nlme(out, all, nlme)
+    print_node(out, nlme);
+    print_table(out, state.table);
+    print_nlme(out, nlme);
 }
 
 // The bytes that are lent for a page: no line of the format asks for more than 1,024.
@@ -779,35 +698,51 @@ fn lent_bytes(bytes: u16) -> usize
     usize::from(bytes).min(1024)
 }
 
-// Lends the start of a buffer for a page, and writes the refusal there where the call is turned down.
-fn print_page(out: &mut [u8], state: State, bytes: u16) -> usize
-    requires { 1024 ≤ length out.old }
-    ensures value { Wrote out.old 0 out.new result (page_text bytes state) }
-    ensures short { result ≤ 16000 }
+// Lends the start of some bytes for a page, and hands on the step that is answered.
+fn lend_page(page: &mut [u8; 1024], state: State, bytes: u16) -> Step
+    ensures step { result ≡ (page_answer bytes state).step }
+    ensures page { page.new ≡ over page.old (page_bytes result (entries_of state.table)) }
 {
     let lent = lent_bytes(bytes);
-    let answer = state.write_neighbor_page(&mut out[..lent]);
-    let step = answer.step;
-    let Step::PageWritten = step else {
-        return print_step(out, 0, step, 0);
-    };
-    neighbor_page::PAGE_BYTES
+    state.write_neighbor_page(&mut page[..lent]).step
+}
+
+// A page, or the refusal where the call is turned down.
+fn print_page(out: &mut Writer, state: State, bytes: u16)
+    ensures { out.new ≡ with_text out.old (page_text bytes state) }
+{
+    let mut page = [0; 1024];
+    let step = lend_page(&mut page, state, bytes);
+    print_step(out, step, 0);
+    if let Step::PageWritten = step {
+        out.write(lists::in_use(&page, neighbor_page::PAGE_BYTES));
+    }
 }
 
 // What is printed of a turn, which line `number` of the trace is.
-fn print(out: &mut [u8], number: u32, turn: Turn) -> usize
-    requires { 1024 ≤ length out.old }
-    ensures value { Wrote out.old 0 out.new result (text_of number turn) }
-    ensures short { result ≤ 16000 }
+#[tactic(auto, using(crate::proofs::Pages::said))]
+fn print(out: &mut Writer, number: u32, turn: Turn)
+    ensures value { out.new ≡ with_text out.old (text_of number turn) }
+    ensures short { length (text_of number turn) ≤ 16384 }
 {
     match turn.said {
         Said::Bad => print_bad(out, number),
-        Said::Nothing => 0,
+        Said::Nothing => {}
         Said::Told(told) => print_told(out, told),
         Said::Chosen(choice) => print_choice(out, choice),
         Said::Shown => print_state(out, turn.session.state),
         Said::Paged(bytes) => print_page(out, turn.session.state, bytes),
     }
+}
+
+// All that a turn prints, from the start of a buffer, and how many bytes that is.
+#[tactic(auto, using(crate::proofs::Lists::whole))]
+fn print_whole(out: &mut [u8; 16384], number: u32, turn: Turn) -> usize
+    ensures { (result ≡ length (text_of number turn)) × (out.new ≡ over out.old (text_of number turn)) }
+{
+    let mut lines = Writer::new(out);
+    print(&mut lines, number, turn);
+    lines.place()
 }
 
 // A line answered.
@@ -840,7 +775,7 @@ impl Run {
     {
         let number = number_after(self.number);
         let turn = turn_of(self.session, line);
-        let length = print(out, number, turn);
+        let length = print_whole(out, number, turn);
         let session = turn.session;
         let good = !is_bad(turn.said);
         Run {

@@ -2,4 +2,4 @@
 use Rattle.trace.proofs.print.Goals as goal
 
 pub returns-in-Shown-clause-value : goal.returns-in-Shown-clause-value
-returns-in-Shown-clause-value c = rw c.in-Shown.is c.print_state.ensures.value.0
+returns-in-Shown-clause-value c = rw c.in-Shown.is c.print_state.ensures.value

@@ -1,23 +1,26 @@
 -- `print_page` meets its contract. Assumes nothing.
 use borrow.Enum.Refused.{opened}
-use native.Mathlib.Omega.{arith}
 use mathlib.Core.Path.{ap, ◌∙◌}
-use lib.ListN.{length}
-use lib.Seq.{sets}
-use Rattle.trace.proofs.Pages.{out_written, out-refused, size-written, text-of}
+use Rattle.nib.specs.Neighbors.{entries_of}
+use Rattle.text.specs.Writer.{with_text}
+use Rattle.text.proofs.Written.{text_behind}
+use Rattle.trace.specs.Lines.{step_line}
+use Rattle.trace.specs.Trace.{some_text, page_bytes}
+use Rattle.trace.proofs.Pages.{page_behind, page_alone, page-taken}
 use Rattle.trace.proofs.print_page.Goals as goal
+
+-- the line of the step, none, and the page behind it
+pub returns-in-PageWritten : goal.returns-in-PageWritten
+returns-in-PageWritten c =
+    let st = c.lend_page-step.result in
+    let es = entries_of c.args.state.table in
+    let e = c.lend_page-step.ensures in
+    let o = c.args.out.now in
+    let t = c.in_use.ensures ∙ page-taken _ c.lend_page-step.new.page st es c.in-PageWritten.is e.page in
+    c.write.ensures ∙ (λ i. with_text (c.print_step.ensures i) (t i)) ∙ text_behind o (some_text (step_line st 0)) (page_bytes st es)
+    ∙ ap (with_text o) (page_behind c.args.bytes c.args.state st e.step)
 
 pub returns-in_default : goal.returns-in_default
 returns-in_default c =
-    let p = c.print_step.ensures in
-    let h = (opened c.in_default.in_default-own.keys2) in
-    let o = out-refused c.args.bytes c.args.state c.args.out.now c.write_neighbor_page-answer.new.page c.write_neighbor_page-answer.result c.lent_bytes-lent.result c.lent_bytes-lent.ensures c.requires c.write_neighbor_page-answer.ensures.0 c.write_neighbor_page-answer.ensures.1 h in
-    let e = text-of c.args.bytes c.args.state c.args.out.now c.write_neighbor_page-answer.new.page c.write_neighbor_page-answer.result c.lent_bytes-lent.result c.lent_bytes-lent.ensures c.requires c.write_neighbor_page-answer.ensures.0 c.write_neighbor_page-answer.ensures.1 h in
-    record { value = (p.0.0 ∙ ap length e, p.0.1 ∙ (λ i. sets (o i) 0 (e i))); short = omega (arith, p.1) }
-
-pub returns-clause-value : goal.returns-clause-value
-returns-clause-value c =
-    let h = c.in-PageWritten.is in (
-      size-written c.args.bytes c.args.state c.args.out.now c.write_neighbor_page-answer.new.page c.write_neighbor_page-answer.result c.lent_bytes-lent.result c.lent_bytes-lent.ensures c.requires c.write_neighbor_page-answer.ensures.0 c.write_neighbor_page-answer.ensures.1 h,
-      out_written c.args.bytes c.args.state c.args.out.now c.write_neighbor_page-answer.new.page c.write_neighbor_page-answer.result c.lent_bytes-lent.result c.lent_bytes-lent.ensures c.requires c.write_neighbor_page-answer.ensures.0 c.write_neighbor_page-answer.ensures.1 h,
-    )
+    let e = c.lend_page-step.ensures in
+    c.print_step.ensures ∙ ap (with_text c.args.out.now) (page_alone c.args.bytes c.args.state c.lend_page-step.result e.step (opened c.in_default.in_default-own.keys2))
