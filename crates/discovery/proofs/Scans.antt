@@ -40,6 +40,12 @@ pub neighbors-next : (ds : List PanDescriptor) (i : ℕ) (d : PanDescriptor) →
 unfolding neighbors_of
 neighbors-next = flat_map-next entries_from
 
+-- a beacon gives one entry at most
+pub present-one : (x : Option NwkNeighbor) → length (present x) ≤ 1
+unfolding present
+present-one None = omega arith
+present-one (Some e) = omega arith
+
 -- the short-addressed descriptors are those that give an entry
 pub short_count : (ds : List PanDescriptor) → length (neighbors_of ds) ≡ count_by (λ d. is_some (neighbor_of d)) ds
 unfolding neighbors_of present flat_map

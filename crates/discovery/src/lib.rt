@@ -44,6 +44,7 @@ pub struct NetworkDescriptor {
 pub const MAX_NETWORK_DESCRIPTORS: u8 = MAX_PAN_DESCRIPTOR_SIZE as u8;
 
 // The confirm of a discovery: the first `count` descriptors are in use.
+// An array with a count, since there is no heap.
 #[derive(Clone, Copy)]
 pub struct NlmeNetworkDiscoveryConfirm {
     pub network_descriptor: [NetworkDescriptor; MAX_PAN_DESCRIPTOR_SIZE],

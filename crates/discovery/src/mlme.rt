@@ -87,7 +87,8 @@ pub struct MacError;
 // How many descriptors a scan hands over at most.
 pub const MAX_PAN_DESCRIPTOR_SIZE: usize = 27;
 
-// What a scan found, in the order of the beacons: the first `count` descriptors are in use. A caller may hand in any count.
+// What a scan found, in the order of the beacons: the first `count` descriptors are in use.
+// An array with a count: there is no heap. Any count may be handed in: a type that bounds it would ask of the caller what refusal 3 answers now.
 #[derive(Clone, Copy)]
 pub struct PanDescriptorList {
     pub descriptors: [PanDescriptor; MAX_PAN_DESCRIPTOR_SIZE],

@@ -138,6 +138,7 @@ pub fn refresh_timeout(control: Control) -> Decision
 }
 
 // The leave indication is taken.
+// `take_status` has the same two lines over another slot and another step: one function for both would be longer.
 pub fn take_leave(mut control: Control) -> Decision
     ensures { result ≡ leave_taken control }
 {
@@ -145,7 +146,7 @@ pub fn take_leave(mut control: Control) -> Decision
     operation::telling(control, Step::LeaveTaken(taken))
 }
 
-// The status indication is taken.
+// The status indication is taken, as `take_leave` takes the leave indication.
 pub fn take_status(mut control: Control) -> Decision
     ensures { result ≡ status_taken control }
 {

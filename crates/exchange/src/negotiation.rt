@@ -61,6 +61,7 @@ fn accepted(control: Control, purpose: TimeoutFor) -> Decision
 }
 
 // No timeout response is left in its slot.
+// One line, as `without_response` of `join` is over another type: one function for both would be longer.
 fn no_timeout_response(mut control: Control) -> Control
     ensures { result ≡ no_timeout_response control }
 {

@@ -66,6 +66,7 @@ pub fn store_capabilities(mut control: Control, capabilities: CapabilityInformat
 }
 
 // The status of a confirm for the status of an association or rejoin response that is no success.
+// No `From`: it is no conversion, since all statuses but two are a MAC error.
 #[tactic(auto, unfolding(crate::specs::Join::failed_status))]
 pub fn failed_status(status: u8) -> NlmeJoinStatus
     ensures { result ≡ failed_status status }

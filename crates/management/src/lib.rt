@@ -56,7 +56,7 @@ pub struct NlmeJoinConfirm {
     pub channel: u8,
 }
 
-// The answers to a send, a poll or receive, a negotiation and a keepalive.
+// The answer to a send. An enum of its own: a send can answer just these, and a `Result` with one error enum for all would list errors that it can't give.
 #[derive(Clone, Copy)]
 pub enum SendAnswer {
     SendOk,
@@ -65,6 +65,7 @@ pub enum SendAnswer {
     SendParentLinkFailure,
 }
 
+// The answer to a poll or a receive, which can answer just these: an enum of its own, as a send has.
 #[derive(Clone, Copy)]
 pub enum PollAnswer {
     PollData,
@@ -74,6 +75,7 @@ pub enum PollAnswer {
     PollUndecodable,
 }
 
+// The answer to a negotiation, which can answer just these: an enum of its own, as a send has.
 #[derive(Clone, Copy)]
 pub enum NegotiationAnswer {
     Negotiated,
@@ -82,6 +84,7 @@ pub enum NegotiationAnswer {
     NegotiationMacError,
 }
 
+// The answer to a keepalive, which can answer just these: an enum of its own, as a send has.
 #[derive(Clone, Copy)]
 pub enum KeepaliveAnswer {
     KeepaliveOk,
@@ -147,6 +150,7 @@ impl Signals {
     }
 
     // Each of these replaces the value of one slot, or empties it; the other three stay.
+    // They are four: each is one line over another slot and type, and one function over all would take the slot by a closure, which is longer.
     pub fn with_rejoin_response(self, slot: Option<RejoinResponse>) -> Signals
         ensures { result ≡ with_rejoin_response slot self }
     {

@@ -184,6 +184,7 @@ pub struct NwkNeighbor {
 }
 
 // The neighbour table: the first `count` entries are in use.
+// An array with a count: there is no heap. Any count may be handed in: a type that bounds it would ask of the caller what refusal 5 answers now.
 #[derive(Clone, Copy)]
 pub struct NeighborTable {
     pub entries: [NwkNeighbor; MAX_NEIGBOUR_TABLE as usize],

@@ -173,6 +173,7 @@ fn leave_to(
     }
 }
 
+// `parent` and `broadcast_ieee` stay two parameters of this function and of the three that hand them on: one of those is public and keeps them.
 #[tactic(auto, unfolding(crate::specs::Received::announcement))]
 fn announce_leave(
     nlme: Nlme,

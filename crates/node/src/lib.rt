@@ -441,6 +441,7 @@ impl State {
     fn scan_answer(self, outcome: Result<PanDescriptorList, MacError>) -> Answer
         ensures { result ≡ answer self (scan outcome) }
     {
+        // By an `if`, and not by `unless`: next it binds what is awaited, and a closure round that is no plainer.
         if self.is_bad() {
             return self.refuse(Refusal::BadState);
         }
@@ -482,6 +483,7 @@ impl State {
     pub fn association_over(self, outcome: Result<AssociationResponse, MacError>) -> Answer
         ensures { result ≡ answer self (association outcome) }
     {
+        // By an `if`, and not by `unless`: next it looks at what is awaited, and a closure round that is no plainer.
         if self.is_bad() {
             return self.refuse(Refusal::BadState);
         }
@@ -574,6 +576,7 @@ impl State {
     pub fn reception_over(self, outcome: Result<Option<ReceivedFrame>, MacError>) -> Answer
         ensures { result ≡ answer self (reception outcome) }
     {
+        // By an `if`, and not by `unless`: next it binds what is awaited, and a closure round that is no plainer.
         if self.is_bad() {
             return self.refuse(Refusal::BadState);
         }
@@ -668,6 +671,7 @@ impl State {
     pub fn transmission_over(self, sent: bool) -> Answer
         ensures { result ≡ answer self (transmission sent) }
     {
+        // By an `if`, and not by `unless`: next it binds what is awaited, and a closure round that is no plainer.
         if self.is_bad() {
             return self.refuse(Refusal::BadState);
         }
@@ -778,6 +782,7 @@ impl State {
     pub fn write_neighbor_page(self, page: &mut [u8]) -> Answer
         ensures { (result ≡ page_answer (length page.old) self) × (page.new ≡ page_left page.old self) }
     {
+        // By an `if`, and not by `unless`: next it lends the buffer on, and a closure round that is no plainer.
         if self.is_bad() {
             return self.refuse(Refusal::BadState);
         }

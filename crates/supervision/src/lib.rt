@@ -108,6 +108,7 @@ pub struct TransmitFailure {
 }
 
 // The pairs of address and count: the first `count` are in use, the oldest first.
+// An array with a count: there is no heap. Any count may be handed in: a type that bounds it would ask of the caller what refusal 5 answers now.
 #[derive(Clone, Copy)]
 pub struct TransmitFailures {
     pub pairs: [TransmitFailure; MAX_NEIGBOUR_TABLE as usize],

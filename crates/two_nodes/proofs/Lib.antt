@@ -1,5 +1,4 @@
 -- The laws of `two_nodes`.
-pub mod Tables
 pub mod Sight
 pub mod States
 pub mod Decisions
