@@ -96,6 +96,7 @@ fn room(size: usize, at: usize, wanted: usize) -> usize
 }
 
 // Writes a text at a place, as far as it fits, and returns its length.
+// Buffer and place are two parameters here and below: the length is that of all the text, fits it or not, which a `Writer`, built on these, does not give.
 pub fn write(out: &mut [u8], at: usize, s: &[u8]) -> usize
     ensures { (result ≡ length s.now) × (out.new ≡ sets out.old at s.now) }
 {

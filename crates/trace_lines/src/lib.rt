@@ -459,7 +459,7 @@ fn fill_line(bytes: &mut [u8; 420], line: &[Field]) -> usize
     out.place()
 }
 
-// Writes a line at a place of a buffer, as far as it fits, and returns its length.
+// Writes a line at a place of a buffer, as far as it fits, and returns its length: that of all the line, which `put_line` does not give.
 #[tactic(auto, using(crate::proofs::Texts::by_itself))]
 pub fn write_line(out: &mut [u8], at: u16, line: &[Field]) -> usize
     ensures { (result ≡ length (line_text line.now)) × (out.new ≡ sets out.old at (line_text line.now)) }
