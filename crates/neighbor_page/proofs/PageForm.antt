@@ -19,9 +19,8 @@ use Rattle.text.specs.Text.{digit_byte, decimal_digits, decimal_text, hex_text, 
 use Rattle.text.proofs.Numbers.{both}
 use Rattle.neighbor_page.specs.Page.{spaced, row, first_row, entry_row, blank_row, slot_row, below, rows, page, too_short, written}
 use Rattle.neighbor_page.specs.Statement.{characters, PageForm}
-use Rattle.neighbor_page.proofs.Rows.{ended}
 use Rattle.neighbor_page.proofs.Gathered.{rows-length, below_length}
-use Rattle.neighbor_page.proofs.Form.{entry-48, rows-48, flat-length}
+use Rattle.neighbor_page.proofs.Form.{entry_48, rows-48, page_size}
 
 -- Characters are bytes from the space on.
 
@@ -80,12 +79,12 @@ record Row (r : List ℕ) : Type 0 where
   long : length r ≡ 48
 
 -- characters with a line feed behind them
-fed : (t : List ℕ) → Characters t → length (ended t 10) ≡ 48 → Row (ended t 10)
+fed : (t : List ℕ) → Characters t → length (t ++ (10 ∷ [])) ≡ 48 → Row (t ++ (10 ∷ []))
 fed t h n =
     let m : length t ≡ 47 = omega (arith, length-append t (10 ∷ [])) in
     record {
       all = subst Characters (sym (take_at t (10 ∷ []) 47 m)) h;
-      feed = ap (λ (k : ℕ). get_or (ended t 10) k 0) (sym m) ∙ get_or-append_seam t 10 [] 0;
+      feed = ap (λ (k : ℕ). get_or (t ++ (10 ∷ [])) k 0) (sym m) ∙ get_or-append_seam t 10 [] 0;
       long = n;
     }
 
@@ -131,7 +130,7 @@ entry_row_lem i e =
         ),
       ),
     ) in
-    fed (spaced (right_text 2 (decimal_text i) ∷ ts)) (joined (right_text 2 (decimal_text i)) (flat_map (λ u. 32 ∷ u) ts) a b) (entry-48 i e)
+    fed (spaced (right_text 2 (decimal_text i) ∷ ts)) (joined (right_text 2 (decimal_text i)) (flat_map (λ u. 32 ∷ u) ts) a b) (entry_48 i e)
 
 slot_row_lem : (i : ℕ) (n : Option NwkNeighbor) → Row (slot_row i n)
 unfolding slot_row
@@ -197,13 +196,9 @@ unused-row es k n h =
 
 -- What stands in a lent buffer
 
-size_is : (es : List NwkNeighbor) → length (page es) ≡ 816
-unfolding page
-size_is es = flat-length (rows es) (rows-48 es) ∙ ap (λ (n : ℕ). 48 * n) (rows-length es 16)
-
 front-written : (es : List NwkNeighbor) (b : List ℕ) → 816 ≤ length b → take 816 (written es b) ≡ page es
 unfolding written
-front-written es b h = ap (λ t. take 816 (cond t b (over b (page es)))) (le-ltb (length b) 816 h) ∙ take_at (page es) (drop (length (page es)) b) 816 (size_is es)
+front-written es b h = ap (λ t. take 816 (cond t b (over b (page es)))) (le-ltb (length b) 816 h) ∙ take_at (page es) (drop (length (page es)) b) 816 (page_size es)
 
 rest-kept : (es : List NwkNeighbor) (b : List ℕ) → drop 816 (written es b) ≡ drop 816 b
 unfolding written
@@ -211,13 +206,13 @@ rest-kept es b = go (too_short (length b))
   where
     go : (t : Bool) → drop 816 (cond t b (over b (page es))) ≡ drop 816 b
     go true = refl
-    go false = drop_at (page es) (drop (length (page es)) b) 816 (size_is es) ∙ ap (λ (n : ℕ). drop n b) (size_is es)
+    go false = drop_at (page es) (drop (length (page es)) b) 816 (page_size es) ∙ ap (λ (n : ℕ). drop n b) (page_size es)
 
 pub page-form : PageForm
 unfolding page first_row entry_row blank_row slot_row row zip_with flat_map decimal_text digit_byte link_cost
 page-form =
     record {
-      size = size_is;
+      size = page_size;
       characters-only = λ es k h. (ap length (these es k h) ∙ length-take-le 47 (get_or (rows es) k []) (omega (arith, (form es k h).long)), subst Characters (sym (these es k h)) (form es k h).all);
       line-feed = last;
       first = λ es. these es 0 (omega arith);

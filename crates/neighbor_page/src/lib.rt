@@ -1,13 +1,15 @@
 // The neighbour page for the depot screen: the neighbour table as text of exact width, written into a lent buffer.
 #![tactic(auto)]
 
-ghost use Rattle.std.specs.Prelude.{◌≡◌, not, min, length};
-ghost use Rattle.std.proofs.lemmas.List.Edits.{sets};
+ghost use Rattle.std.specs.Prelude.{◌≡◌, ◌++◌, not, min, length};
+ghost use mathlib.Core.List.{flat_map};
 ghost use Rattle.nib.specs.Neighbors.{entries_of};
-ghost use Rattle.text.specs.Text.{decimal_text, hex_text, right_text};
+ghost use Rattle.text.specs.Writer.{with_text};
+ghost use Rattle.neighbor_page.specs.Private.{hex_column, number_column};
 ghost use Rattle.neighbor_page.specs.Page.{first_row, entry_row, blank_row, slot_row, rows, too_short, written};
 
 use nib::{MAX_NEIGBOUR_TABLE, NeighborTable, NwkNeighbor};
+use text::writer::Writer;
 
 // The bytes of a page: 17 rows of 47 characters, each with a line feed.
 pub const PAGE_BYTES: usize = 816;
@@ -29,35 +31,63 @@ fn blank_row() -> [u8; 48]
     blank
 }
 
-// Writes a decimal number right-aligned in a column.
-fn write_number(row: &mut [u8], at: usize, n: u8, width: usize)
-    ensures { row.new ≡ sets row.old at (right_text (min width 10) (decimal_text n)) }
+// Writes a column with a decimal number, right-aligned, and the byte behind it.
+#[tactic(auto, using(text::proofs::Written::in_turn), unfolding(crate::specs::Private::number_column))]
+fn write_number(row: &mut Writer, n: u8, width: usize, end: u8)
+    ensures { row.new ≡ with_text row.old (number_column (min width 10) n end) }
 {
-    text::write_decimal_right(row, at, n as u32, width);
+    row.write_decimal_right(u32::from(n), width);
+    row.write(&[end]);
 }
 
-// Writes an address or a PAN id in its column.
-fn write_short(row: &mut [u8], at: usize, n: u16)
-    ensures { row.new ≡ sets row.old at (hex_text 4 n) }
+// Writes a column with an address or a PAN id.
+#[tactic(auto, using(text::proofs::Written::in_turn), unfolding(crate::specs::Private::hex_column))]
+fn write_short(row: &mut Writer, n: u16)
+    ensures { row.new ≡ with_text row.old (hex_column 4 n) }
 {
-    text::write_hex(row, at, n as u64, 4);
+    row.write_hex(u64::from(n), 4);
+    row.write(b" ");
+}
+
+// Writes a column with an extended PAN id.
+#[tactic(auto, using(text::proofs::Written::in_turn), unfolding(crate::specs::Private::hex_column))]
+fn write_extended(row: &mut Writer, n: u64)
+    ensures { row.new ≡ with_text row.old (hex_column 16 n) }
+{
+    row.write_hex(n, 16);
+    row.write(b" ");
+}
+
+// Writes the columns with an entry's address and ids.
+#[tactic(auto, using(text::proofs::Written::in_turn))]
+fn write_ids(row: &mut Writer, e: &NwkNeighbor)
+    ensures { row.new ≡ with_text row.old (hex_column 4 e.now.network_address.0 ++ (hex_column 16 e.now.extended_pan_id.0 ++ hex_column 4 e.now.pan_id.0)) }
+{
+    write_short(row, e.network_address.0);
+    write_extended(row, e.extended_pan_id.0);
+    write_short(row, e.pan_id.0);
+}
+
+// Writes the row of an entry at an index of the table.
+fn write_entry(row: &mut Writer, index: u8, e: &NwkNeighbor)
+    ensures { row.new ≡ with_text row.old (entry_row index e.now) }
+{
+    write_number(row, index, 2, b' ');
+    write_ids(row, e);
+    write_number(row, e.logical_channel, 3, b' ');
+    write_number(row, e.depth, 3, b' ');
+    write_number(row, e.lqi, 3, b' ');
+    write_number(row, nib::link_cost_from_lqi(e.lqi), 1, b' ');
+    write_number(row, e.relationship, 3, b'\n');
 }
 
 // The row of an entry at an index of the table.
+#[tactic(auto, unfolding(text::specs::Writer::with_text), using(crate::proofs::Form::filled, crate::proofs::Form::entry_48))]
 fn entry_row(index: u8, e: NwkNeighbor) -> [u8; 48]
     ensures { result ≡ entry_row index e }
 {
-    let mut row = [b' '; 48];
-    write_number(&mut row, 0, index, 2);
-    write_short(&mut row, 3, e.network_address.0);
-    text::write_hex(&mut row, 8, e.extended_pan_id.0, 16);
-    write_short(&mut row, 25, e.pan_id.0);
-    write_number(&mut row, 30, e.logical_channel, 3);
-    write_number(&mut row, 34, e.depth, 3);
-    write_number(&mut row, 38, e.lqi, 3);
-    write_number(&mut row, 42, nib::link_cost_from_lqi(e.lqi), 1);
-    write_number(&mut row, 44, e.relationship, 3);
-    row[47] = b'\n';
+    let mut row = [0; 48];
+    write_entry(&mut Writer::new(&mut row), index, &e);
     row
 }
 
@@ -83,14 +113,18 @@ fn rows_of(table: NeighborTable) -> [[u8; 48]; 17]
     rows
 }
 
-// Writes a row at a place of the page.
-fn write_row(page: &mut [u8], at: usize, row: &[u8; 48])
-    ensures { page.new ≡ sets page.old at row.now }
+// Writes rows one behind the other.
+#[tactic(auto, using(text::proofs::Written::in_turn, crate::proofs::Form::rows_in_turn))]
+fn write_rows(out: &mut Writer, rows: &[[u8; 48]; 17])
+    ensures { out.new ≡ with_text out.old (flat_map (λ r. r) rows.now) }
 {
-    text::write(page, at, row);
+    for row in rows {
+        out.write(row);
+    }
 }
 
 // Writes the page of a table at the start of a lent buffer, and says whether that was done: one shorter than a page stays as it is.
+#[tactic(auto, unfolding(text::specs::Writer::with_text), using(crate::proofs::Form::page_kept, crate::proofs::Form::page_written))]
 pub fn write_page(page: &mut [u8], table: NeighborTable) -> bool
     ensures { (result ≡ not (too_short (length page.old))) × (page.new ≡ written (entries_of table) page.old) }
 {
@@ -98,8 +132,6 @@ pub fn write_page(page: &mut [u8], table: NeighborTable) -> bool
         return false;
     }
     let rows = rows_of(table);
-    for (k, row) in rows.iter().enumerate() {
-        write_row(page, k * 48, row);
-    }
+    write_rows(&mut Writer::new(page), &rows);
     true
 }

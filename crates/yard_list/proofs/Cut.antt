@@ -19,7 +19,7 @@ use Rattle.text.proofs.Sizes.{same_size, hex-size, decimal-size, total, total-pa
 use Rattle.yard_list.specs.declared.Form.{Form}
 use Rattle.yard_list.specs.declared.Form.TheVariants.{RequestWord, EntryWord, Hex, Decimal}
 use Rattle.yard_list.specs.YardList.{fits, request_forms, entry_forms, all_fit, is_good, good_from, list_text, bad_text, ended_lines, unended, yard_text}
-use Rattle.yard_list.proofs.Lines.{good-few}
+use Rattle.yard_list.proofs.Lines.{good_few}
 
 -- how long a field of a form is at most, for decimal numbers below 1,000
 abbrev most : Form → ℕ
@@ -112,7 +112,7 @@ drop-take n m t h l =
 
 -- as many lines are good in a front that is long enough
 same_good : (d k : ℕ) (t : List ℕ) (m : ℕ) → k + d ≡ 17 → 55 * d < m → m ≤ length t → good_from k (ended_lines (take m t)) ≡ good_from k (ended_lines t)
-same_good zero k t m e l h = omega (arith, good-few k (ended_lines (take m t)) (omega arith), good-few k (ended_lines t) (omega arith))
+same_good zero k t m e l h = omega (arith, good_few k (ended_lines (take m t)) (omega arith), good_few k (ended_lines t) (omega arith))
 same_good (suc d) k t m e l h = go (λ s n a b. same_good d (suc k) s n (omega arith) a b) (ltb (first t) (length t)) refl (ltb (first t) m) refl
   where
     Next : Type 0
@@ -166,7 +166,7 @@ right-step d k t e g u shorter = go (ltb (first t) (length t)) refl
     more : (w : first t < length t) (b : Bool) → is_good k (take (first t) t) ≡ b → cond b (suc (good_from (suc k) (ended_lines (rest t w)))) 0 ≡ suc (length (parts 10 (rest t w)) - 1) → length t ≤ 55 * d
     more w true q c =
         let s : first t ≤ 54 = omega (arith, good-size k (take (first t) t) q, length-take-le (first t) t (omega arith)) in
-        let f : 1 ≤ d = omega (arith, good-few k (ended_lines t) (omega arith), parts_more t w) in
+        let f : 1 ≤ d = omega (arith, good_few k (ended_lines t) (omega arith), parts_more t w) in
         let r = shorter (d - 1) (omega arith) (rest t w) (omega arith) (ap length (sym (unended-more t w)) ∙ u) in
         omega (arith, length-drop (suc (first t)) t)
     more w false q c = let x : ⊥ = omega arith in absurd x

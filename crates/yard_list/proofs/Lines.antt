@@ -15,7 +15,8 @@ use Rattle.nib.specs.Neighbors.{table_of, pushed}
 use Rattle.nib.specs.declared.NwkNeighbor.{NwkNeighbor}
 use Rattle.nib.specs.declared.NeighborTable.{NeighborTable}
 use Rattle.nib.proofs.Tables.{push-of}
-use Rattle.text.specs.Text.{fields}
+use Rattle.text.specs.Text.{parts, fields}
+use Rattle.text.proofs.Parts.{parts-some}
 use Rattle.yard_list.specs.declared.Form.{Form}
 use Rattle.yard_list.specs.YardList.{fits, request_forms, entry_forms, all_fit, is_good, good_from, entry_of, entries_in}
 
@@ -54,10 +55,14 @@ good-within k l h = go (eqb k 0) refl (leb k 16) refl h
     go false p true q t = leb-true k 16 q
     go false p false q t = absurd (false≢true t)
 
+-- a text has a part: what stands after the last line feed
+pub some_part : (t : List ℕ) → 1 ≤ length (parts 10 t)
+some_part t = parts-some 10 t
+
 -- at most 17 lines are good
-pub good-few : (k : ℕ) (ls : List (List ℕ)) → k ≤ 17 → k + good_from k ls ≤ 17
-good-few k [] h = omega arith
-good-few k (l ∷ ls) h = go (is_good k l) refl (λ w. good-few (suc k) ls w)
+pub good_few : (k : ℕ) (ls : List (List ℕ)) → k ≤ 17 → k + good_from k ls ≤ 17
+good_few k [] h = omega arith
+good_few k (l ∷ ls) h = go (is_good k l) refl (λ w. good_few (suc k) ls w)
   where
     go : (b : Bool) → is_good k l ≡ b → (suc k ≤ 17 → suc k + good_from (suc k) ls ≤ 17) → k + cond b (suc (good_from (suc k) ls)) 0 ≤ 17
     go true e r = let w = good-within k l e in omega (arith, r (omega arith))

@@ -5,7 +5,7 @@ use mathlib.Core.Bool.{Bool, true, false, cond, ◌&&◌}
 use mathlib.Core.List.{List, [], ◌∷◌, ◌++◌, append_assoc, append-nil}
 use native.Mathlib.Nat.{add-zero, not-suc-le-zero}
 use native.Mathlib.Omega.{arith}
-use borrow.Author.Tests.{lt-ltb, le-ltb, eq-eqb, ne_eqb, eqb-true}
+use borrow.Author.Tests.{eqb-true}
 use lib.ListN.{length, take, drop, get_or, length-append, length-map, length-take}
 use lib.Seq.{length-take-le}
 use lib.Dec.{eqb, ltb}
@@ -14,7 +14,7 @@ use Rattle.lists.proofs.Lists.{take_next}
 use Rattle.nib.specs.Neighbors.{blank, entries_of, table_of}
 use Rattle.nib.specs.declared.NeighborTable.{NeighborTable}
 use Rattle.nib.proofs.Tables.{entries-of}
-use Rattle.candidates.specs.Candidates.{list_of}
+use Rattle.candidates.specs.Candidates.{list_of, items_of}
 use Rattle.candidates.specs.declared.CandidateList.{CandidateList}
 use Rattle.candidates.proofs.Listed.{items-of}
 use Rattle.yard_list.specs.Private.{Named}
@@ -22,8 +22,8 @@ use Rattle.nib.specs.declared.NwkNeighbor.{NwkNeighbor}
 use Rattle.candidates.proofs.Laws.{few, below}
 use Rattle.text.specs.Text.{parts, fields, decimal_text}
 use Rattle.text.proofs.Numbers.{both, decimal-long, decimal-short, decimal-most}
-use Rattle.yard_list.specs.YardList.{good_from, hex_at, byte_at, flag_at, entry_of, entries_in, chosen, cell, row_of, rows_from, header, list_text, bad_text, ended_lines, unended, yard_text}
-use Rattle.yard_list.proofs.Lines.{good-few}
+use Rattle.yard_list.specs.YardList.{good_from, hex_at, byte_at, flag_at, entry_of, entries_in, chosen, row_of, rows_from, header, list_text, bad_text, ended_lines, unended, yard_text}
+use Rattle.yard_list.proofs.Lines.{good_few}
 
 module _ (es : List NwkNeighbor) where
   -- one candidate more at the end
@@ -41,46 +41,33 @@ module _ (es : List NwkNeighbor) where
       ap (rows_from es 1) (take_next l i 0 h) ∙ rows_snoc 1 (take i l) (get_or l i 0)
       ∙ ap (λ (n : ℕ). rows_from es 1 (take i l) ++ row_of (get_or es (get_or l i 0) blank) n (get_or l i 0)) e
 
--- how long a line is: at most 49 bytes, whatever its numbers
+-- how long a line is
 row-size : (e : NwkNeighbor) (p i : ℕ) → length (row_of e p i) ≡ length (decimal_text p) + (length (decimal_text i) + (length (decimal_text e.logical_channel) + length (decimal_text e.depth))) + 9
 row-size e p i = simp length-append (omega arith)
 
-pub row-long : (e : NwkNeighbor) (p i : ℕ) → length (row_of e p i) ≤ 49
-row-long e p i = omega (arith, row-size e p i, decimal-long p, decimal-long i, decimal-long e.logical_channel, decimal-long e.depth)
-
-pub rows_long : (es : List NwkNeighbor) (p : ℕ) (l : List ℕ) → length (rows_from es p l) ≤ 49 * length l
-rows_long es p [] = zero-le
-rows_long es p (i ∷ is) =
-    let r = row_of (get_or es i blank) p i in
-    omega (arith, length-append r (rows_from es (suc p) is), row-long (get_or es i blank) p i, rows_long es (suc p) is)
-
-pub cell-long : (n end : ℕ) → length (cell (decimal_text n) end) ≤ 11
-cell-long n end = omega (arith, length-append (decimal_text n) (end ∷ []), decimal-long n)
-
--- how long what is written is, for the sums of a line's places
-pub ruleset sizes = (decimal-long, cell-long)
-
--- the candidates of the entries of at most 16 lines
-pub named : (t : NeighborTable) (c : CandidateList) (fs ns : List (List ℕ)) → t ≡ table_of (entries_in ns) → length ns ≤ 16 → c ≡ list_of (chosen fs (entries_of t)) → Named t c
+-- the candidates of a request among the entries of at most 16 lines
+pub named : (n : ℕ) (ls fs : List (List ℕ)) → n ≤ 16 → Named (table_of (entries_in (take n ls))) (list_of (chosen fs (entries_of (table_of (entries_in (take n ls))))))
 unfolding chosen
-named t c fs ns p h q =
-    let es = entries_of t in
-    let e : es ≡ entries_in ns = ap (λ (x : NeighborTable). entries_of x) p ∙ entries-of (entries_in ns) in
-    let n : length es ≡ length ns = ap length e ∙ length-map ns (λ l. entry_of (fields l)) in
-    let m : c.count ≡ length (chosen fs es) = ap (λ (x : CandidateList). x.count) q in
+named n ls fs h =
+    let ns = take n ls in
+    let es = entries_of (table_of (entries_in ns)) in
+    let l : length es ≤ 16 = omega (arith, ap length (entries-of (entries_in ns)), length-map ns (λ l. entry_of (fields l)), length-take n ls) in
     record {
-      few = omega (arith, m, n, few (byte_at fs 4) (flag_at fs 2) (flag_at fs 3) (hex_at 16 fs 1) es);
-      within = subst (All (λ i. i < length es)) (sym (items-of c (chosen fs es) q)) (below (byte_at fs 4) (flag_at fs 2) (flag_at fs 3) (hex_at 16 fs 1) es);
+      few = omega (arith, few (byte_at fs 4) (flag_at fs 2) (flag_at fs 3) (hex_at 16 fs 1) es);
+      within = subst (All (λ i. i < length es)) (sym (items-of (list_of (chosen fs es)) (chosen fs es) refl)) (below (byte_at fs 4) (flag_at fs 2) (flag_at fs 3) (hex_at 16 fs 1) es);
     }
 
--- the text of good lines, the first and the others
-pub list-is : (n : ℕ) (ls : List (List ℕ)) → 0 < n → 0 < length ls → list_text (take n ls) ≡ header ++ rows_from (entries_in (take (n - 1) (drop 1 ls))) 1 (chosen (fields (get_or ls 0 [])) (entries_in (take (n - 1) (drop 1 ls))))
+-- the text of good lines: the header, and the candidates of line 1 among the entries of the others
+pub list-is : (n : ℕ) (ls : List (List ℕ)) (l : List ℕ) (t : NeighborTable) (c : CandidateList) → 0 < n → n < length ls → l ≡ get_or ls 0 [] → t ≡ table_of (entries_in (take (n - 1) (drop 1 ls)))
+    → c ≡ list_of (chosen (fields l) (entries_of t)) → header ++ rows_from (entries_of t) 1 (items_of c) ≡ list_text (take n ls)
 unfolding list_text
-list-is zero ls h k = absurd (not-suc-le-zero h)
-list-is (suc n) [] h k = absurd (not-suc-le-zero k)
-list-is (suc n) (l ∷ ls) h k =
-    let e : n ≡ suc n - 1 = omega arith in
-    ap (λ (m : ℕ). header ++ rows_from (entries_in (take m ls)) 1 (chosen (fields l) (entries_in (take m ls)))) e
+list-is zero ls l t c h k o p q = absurd (not-suc-le-zero h)
+list-is (suc n) [] l t c h k o p q = absurd (not-suc-le-zero k)
+list-is (suc n) (x ∷ xs) l t c h k o p q =
+    let m : suc n - 1 ≡ n = omega arith in
+    let e : entries_of t ≡ entries_in (take n xs) = ap (λ (y : NeighborTable). entries_of y) p ∙ entries-of (entries_in (take (suc n - 1) xs)) ∙ ap (λ (y : ℕ). entries_in (take y xs)) m in
+    ap (λ (y : List ℕ). header ++ rows_from (entries_of t) 1 y) (items-of c (chosen (fields l) (entries_of t)) q)
+    ∙ (λ j. header ++ rows_from (e j) 1 (chosen (fields (o j)) (e j)))
 
 -- the text is never longer than 512 bytes: an entry's numbers have at most three digits
 small_at : (ns : List (List ℕ)) (i : ℕ) → ((get_or (entries_in ns) i blank).logical_channel ≤ 255) × ((get_or (entries_in ns) i blank).depth ≤ 255)
@@ -117,36 +104,19 @@ pub bad-short : (n : ℕ) → length (bad_text n) ≤ 512
 unfolding bad_text
 bad-short n = omega (arith, length-append (decimal_text n) (10 ∷ []), decimal-long n)
 
--- which of the two texts is printed
-module _ (t : List ℕ) where
-  abbrev good : ℕ
-  good = good_from 0 (ended_lines t)
+-- nor is what is printed
+pub yard_short : (t : List ℕ) → length (yard_text t) ≤ 512
+unfolding yard_text
+yard_short t = go (ltb 0 good && (eqb good ended && eqb (length (unended t)) 0)) refl
+  where
+    good : ℕ
+    good = good_from 0 (ended_lines t)
 
-  abbrev ended : ℕ
-  ended = length (parts 10 t) - 1
+    ended : ℕ
+    ended = length (parts 10 t) - 1
 
-  pub none-good : good ≡ 0 → bad_text 1 ≡ yard_text t
-  unfolding yard_text
-  none-good e = let n : good + 1 ≡ 1 = omega arith in sym (rw (le-ltb 0 good (omega arith)) (ap bad_text n))
-
-  pub next-bad : 0 < good → (good ≡ ended → ⊥) → bad_text (good + 1) ≡ yard_text t
-  unfolding yard_text
-  next-bad p n = sym (rw (lt-ltb 0 good p, ne_eqb good ended n))
-
-  pub rest-bad : 0 < good → good ≡ ended → eqb (length (unended t)) 0 ≡ false → bad_text (good + 1) ≡ yard_text t
-  unfolding yard_text
-  rest-bad p e n = sym (rw (lt-ltb 0 good p, eq-eqb good ended e, n))
-
-  pub all-good : 0 < good → good ≡ ended → eqb (length (unended t)) 0 ≡ true → list_text (ended_lines t) ≡ yard_text t
-  unfolding yard_text
-  all-good p e n = sym (rw (lt-ltb 0 good p, eq-eqb good ended e, n))
-
-  pub yard-short : length (yard_text t) ≤ 512
-  unfolding yard_text
-  yard-short = go (ltb 0 good && (eqb good ended && eqb (length (unended t)) 0)) refl
-    where
-      go : (b : Bool) → (ltb 0 good && (eqb good ended && eqb (length (unended t)) 0)) ≡ b → length (cond b (list_text (ended_lines t)) (bad_text (good + 1))) ≤ 512
-      go true e =
-          let h = both (eqb good ended) (eqb (length (unended t)) 0) (both (ltb 0 good) (eqb good ended && eqb (length (unended t)) 0) e).1 in
-          list-short (ended_lines t) (omega (arith, eqb-true good ended h.0, good-few 0 (ended_lines t) zero-le, length-take ended (parts 10 t)))
-      go false e = bad-short (good + 1)
+    go : (b : Bool) → (ltb 0 good && (eqb good ended && eqb (length (unended t)) 0)) ≡ b → length (cond b (list_text (ended_lines t)) (bad_text (good + 1))) ≤ 512
+    go true e =
+        let h = both (eqb good ended) (eqb (length (unended t)) 0) (both (ltb 0 good) (eqb good ended && eqb (length (unended t)) 0) e).1 in
+        list-short (ended_lines t) (omega (arith, eqb-true good ended h.0, good_few 0 (ended_lines t) zero-le, length-take ended (parts 10 t)))
+    go false e = bad-short (good + 1)

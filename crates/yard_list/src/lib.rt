@@ -3,11 +3,11 @@
 
 ghost use Rattle.std.specs.Prelude.{◌≡◌, [], ◌+◌, ◌-◌, ◌≤◌, ◌<◌, eqb, length, take, drop, get_or};
 ghost use Rattle.std.specs.List.{list_all, zip};
-ghost use Rattle.std.proofs.lemmas.List.Edits.{sets};
 ghost use Rattle.lists.specs.Lists.{over};
 ghost use Rattle.nib.specs.Neighbors.{entries_of, table_of};
 ghost use Rattle.candidates.specs.Candidates.{list_of, items_of};
 ghost use Rattle.text.specs.Text.{parts, fields, decimal_text, hex_text};
+ghost use Rattle.text.specs.Writer.{with_text};
 ghost use Rattle.yard_list.specs.Private.{Named};
 ghost use Rattle.yard_list.specs.YardList.{fits, all_fit, is_good, good_from, hex_at, byte_at, flag_at, entry_of, entries_in, chosen, cell, row_of, rows_from, list_text, bad_text, yard_text};
 
@@ -15,6 +15,7 @@ use candidates::CandidateList;
 use nib::{
     ExtendedPanId, IeeeAddress, MAX_NEIGBOUR_TABLE, NeighborTable, NwkNeighbor, PanId, ShortAddress,
 };
+use text::writer::Writer;
 
 // How many entries a list has at most: as many as a neighbour table.
 const MAX_ENTRIES: usize = MAX_NEIGBOUR_TABLE as usize;
@@ -208,72 +209,67 @@ fn choose(line: &[u8], table: NeighborTable) -> CandidateList
 }
 
 // Writes a column with a number.
-#[tactic(auto, using(crate::proofs::Rows::sizes))]
-fn write_number(out: &mut [u8], at: usize, n: u8, end: u8) -> usize
-    requires { at ≤ 1000 }
-    ensures { (result ≡ length (cell (decimal_text n) end)) × (out.new ≡ sets out.old at (cell (decimal_text n) end)) }
+#[tactic(auto, using(text::proofs::Written::in_turn))]
+fn write_number(out: &mut Writer, n: u8, end: u8)
+    ensures { out.new ≡ with_text out.old (cell (decimal_text n) end) }
 {
-    let count = text::write_decimal(out, at, u32::from(n));
-    let last = [end];
-    count + text::write(out, at + count, &last)
+    out.write_decimal(u32::from(n));
+    out.write(&[end]);
 }
 
 // Writes a column with an address.
-fn write_address(out: &mut [u8], at: usize, address: u16) -> usize
-    requires { at ≤ 1000 }
-    ensures { (result ≡ 5) × (out.new ≡ sets out.old at (cell (hex_text 4 address) 9)) }
+#[tactic(auto, using(text::proofs::Written::in_turn))]
+fn write_address(out: &mut Writer, address: u16)
+    ensures { out.new ≡ with_text out.old (cell (hex_text 4 address) 9) }
 {
-    let count = text::write_hex(out, at, u64::from(address), 4);
-    count + text::write(out, at + count, b"\t")
+    out.write_hex(u64::from(address), 4);
+    out.write(b"\t");
 }
 
 // Writes a candidate's line.
-#[tactic(auto, using(crate::proofs::Rows::sizes))]
-fn write_row(out: &mut [u8], at: usize, place: u8, index: u8, e: NwkNeighbor) -> usize
-    requires { at ≤ 900 }
-    ensures { (result ≡ length (row_of e place index)) × (out.new ≡ sets out.old at (row_of e place index)) }
+#[tactic(auto, using(text::proofs::Written::in_turn))]
+fn write_row(out: &mut Writer, place: u8, index: u8, e: NwkNeighbor)
+    ensures { out.new ≡ with_text out.old (row_of e place index) }
 {
-    let a = write_number(out, at, place, b'\t');
-    let b = a + write_number(out, at + a, index, b'\t');
-    let c = b + write_address(out, at + b, e.network_address.0);
-    let d = c + write_number(out, at + c, e.logical_channel, b'\t');
-    d + write_number(out, at + d, e.depth, b'\n')
+    write_number(out, place, b'\t');
+    write_number(out, index, b'\t');
+    write_address(out, e.network_address.0);
+    write_number(out, e.logical_channel, b'\t');
+    write_number(out, e.depth, b'\n');
 }
 
 // Writes a line for each candidate.
-fn write_rows(out: &mut [u8], start: usize, table: NeighborTable, list: CandidateList) -> usize
-    requires { (start ≤ 100) × Named table list }
-    ensures { (result ≡ length (rows_from (entries_of table) 1 (items_of list)))
-        × (out.new ≡ sets out.old start (rows_from (entries_of table) 1 (items_of list))) }
+#[tactic(auto, using(text::proofs::Written::in_turn, crate::proofs::Rows::rows_next))]
+fn write_rows(out: &mut Writer, table: NeighborTable, list: CandidateList)
+    requires { Named table list }
+    ensures { out.new ≡ with_text out.old (rows_from (entries_of table) 1 (items_of list)) }
 {
     let entries = table.used();
-    let mut written = 0;
     for (i, index) in list.used().iter().enumerate() {
-        let e = entries[*index as usize];
-        written += write_row(out, start + written, i as u8 + 1, *index, e);
+        write_row(out, i as u8 + 1, *index, entries[*index as usize]);
     }
-    written
 }
 
 // Writes the header and the candidates of an input whose first `ended` lines are good.
-fn write_list(input: &[u8], ended: usize, out: &mut [u8]) -> usize
+#[tactic(auto, using(crate::proofs::Rows::named))]
+fn write_list(out: &mut Writer, input: &[u8], ended: usize)
     requires { (0 < ended) × (ended ≤ 17) × (ended < length (parts 10 input.now)) }
-    ensures { (result ≡ length (list_text (take ended (parts 10 input.now)))) × (out.new ≡ sets out.old 0 (list_text (take ended (parts 10 input.now)))) }
+    ensures { out.new ≡ with_text out.old (list_text (take ended (parts 10 input.now))) }
 {
     let table = read_table(input, ended - 1);
     let list = choose(text::part(input, b'\n', 0), table);
-    let start = text::write(out, 0, b"place\tindex\taddress\tchannel\tdepth\n");
-    start + write_rows(out, start, table, list)
+    out.write(b"place\tindex\taddress\tchannel\tdepth\n");
+    write_rows(out, table, list);
 }
 
 // Writes that a line is bad.
-#[tactic(auto, using(crate::proofs::Rows::sizes), unfolding(crate::specs::YardList::bad_text))]
-fn write_bad(out: &mut [u8], number: usize) -> usize
+#[tactic(auto, using(text::proofs::Written::in_turn), unfolding(crate::specs::YardList::bad_text))]
+fn write_bad(out: &mut Writer, number: usize)
     requires { number ≤ 18 }
-    ensures { (result ≡ length (bad_text number)) × (out.new ≡ sets out.old 0 (bad_text number)) }
+    ensures { out.new ≡ with_text out.old (bad_text number) }
 {
-    text::write(out, 0, b"bad\t");
-    4 + write_number(out, 4, number as u8, b'\n')
+    out.write(b"bad\t");
+    write_number(out, number as u8, b'\n');
 }
 
 // Whether nothing stands after the last line feed.
@@ -283,9 +279,10 @@ fn is_ended(input: &[u8], ended: usize) -> bool
     text::part(input, b'\n', ended).is_empty()
 }
 
-// Writes the yard list of an input and returns its length, which is at most 512.
-pub fn yard_list(input: &[u8], out: &mut [u8; 512]) -> usize
-    ensures { (result ≡ length (yard_text input.now)) × (out.new ≡ over out.old (yard_text input.now)) }
+// Writes the list, or the line that is bad.
+#[tactic(auto, unfolding(crate::specs::YardList::yard_text), using(crate::proofs::Lines::some_part, crate::proofs::Lines::good_few))]
+fn write_yard_list(out: &mut Writer, input: &[u8])
+    ensures { out.new ≡ with_text out.old (yard_text input.now) }
 {
     let ended = text::part_count(input, b'\n') - 1;
     let good = good_lines(input, ended);
@@ -298,5 +295,15 @@ pub fn yard_list(input: &[u8], out: &mut [u8; 512]) -> usize
     if !is_ended(input, ended) {
         return write_bad(out, good + 1);
     }
-    write_list(input, ended, out)
+    write_list(out, input, ended);
+}
+
+// Writes the yard list of an input and returns its length, which is at most 512.
+#[tactic(auto, unfolding(text::specs::Writer::with_text), using(text::proofs::Written::from_start, crate::proofs::Rows::yard_short))]
+pub fn yard_list(input: &[u8], out: &mut [u8; 512]) -> usize
+    ensures { (result ≡ length (yard_text input.now)) × (out.new ≡ over out.old (yard_text input.now)) }
+{
+    let mut list = Writer::new(out);
+    write_yard_list(&mut list, input);
+    list.place()
 }
