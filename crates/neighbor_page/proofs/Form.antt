@@ -1,15 +1,15 @@
 -- Laws of how long rows are, and how many bytes they are together. Assumes nothing.
 use Rattle.std.specs.Prelude.{Option, Some, None}
-use Prim.Native.Nat.{ℕ, ◌+◌, ◌*◌, ◌<◌, ◌≤◌}
-use mathlib.Core.Path.{◌≡◌, refl, sym, ap, ◌∙◌}
-use mathlib.Core.Bool.{cond}
-use mathlib.Core.List.{List, [], ◌∷◌, ◌++◌, append-nil, map, zip_with, flat_map}
+use Prim.Native.Nat.{ℕ, zero, suc, ◌+◌, ◌-◌, ◌*◌, ◌≤◌}
+use mathlib.Core.Path.{◌≡◌, refl, sym, ap, subst, ◌∙◌}
+use mathlib.Core.List.{List, [], ◌∷◌, ◌++◌, append-nil, append_assoc, map, zip_with, flat_map}
 use native.Mathlib.Nat.{mul-zero, mul-suc}
 use native.Mathlib.Omega.{arith}
-use lib.ListN.{length, take, get_or, drop_of_length-le, length-append}
-use borrow.Author.Tests.{lt-ltb, le-ltb}
-use Rattle.lists.specs.Lists.{over, All}
-use Rattle.lists.proofs.Collect.{flat_map-next}
+use lib.ListN.{length, take, drop, drop_of_length-le, length-append, length-drop}
+use lib.Seq.{sets, sets-eq, take_all, length-take-le, drop-drop}
+use borrow.Rule.Slice.PartMut.{put_mid}
+use Rattle.lists.specs.Lists.{All}
+use Rattle.lists.proofs.Bytes.{sets_over}
 use Rattle.text.specs.declared.writer.Writer.{Writer}
 use Rattle.text.specs.Writer.{with_text}
 use Rattle.text.proofs.Written.{from_start}
@@ -18,7 +18,7 @@ use Rattle.nib.specs.Identifiers.{link_cost}
 use Rattle.nib.specs.declared.NwkNeighbor.{NwkNeighbor}
 use Rattle.text.specs.Text.{decimal_text, hex_text, right_text}
 use Rattle.text.proofs.Numbers.{hex-long, right-long}
-use Rattle.neighbor_page.specs.Page.{row, first_row, entry_row, blank_row, slot_row, below, rows, page, written}
+use Rattle.neighbor_page.specs.Page.{row, first_row, entry_row, blank_row, slot_row, below, rows, page}
 use Rattle.neighbor_page.specs.Private.{hex_column, number_column}
 use Rattle.neighbor_page.proofs.Rows.{columns}
 use Rattle.neighbor_page.proofs.Gathered.{rows-length}
@@ -61,17 +61,7 @@ slots-48 es (i ∷ is) = (slot-48 i (entry_at es i), slots-48 es is)
 pub rows-48 : (es : List NwkNeighbor) → All (λ r. length r ≡ 48) (rows es)
 rows-48 es = (first-48, slots-48 es (below 16))
 
--- rows one behind the other: none, and one more
-pub no_rows : flat_map {A = List ℕ} (λ r. r) [] ≡ []
-unfolding flat_map
-no_rows = refl
-
-pub row_next : (rs : List (List ℕ)) (k : ℕ) → k < length rs → flat_map (λ r. r) (take (k + 1) rs) ≡ flat_map (λ r. r) (take k rs) ++ get_or rs k []
-row_next rs k h = flat_map-next (λ r. r) rs k [] h
-
-pub ruleset rows_in_turn = (no_rows, row_next)
-
--- how long they are
+-- rows one behind the other
 pub flat-length : (rs : List (List ℕ)) → All (λ r. length r ≡ 48) rs → length (flat_map (λ r. r) rs) ≡ 48 * length rs
 unfolding flat_map
 flat-length [] a = sym (mul-zero 48)
@@ -81,14 +71,27 @@ pub page_size : (es : List NwkNeighbor) → length (page es) ≡ 816
 unfolding page
 page_size es = flat-length (rows es) (rows-48 es) ∙ ap (λ (n : ℕ). 48 * n) (rows-length es 16)
 
--- a buffer that is too short stays
-pub page_kept : (es : List NwkNeighbor) (b : List ℕ) → length b < 816 → b ≡ written es b
-unfolding written
-page_kept es b h = sym (ap (λ t. cond t b (over b (page es))) (lt-ltb (length b) 816 h))
+take-all-of : (k : ℕ) (l : List (List ℕ)) → All (λ r. length r ≡ 48) l → All (λ r. length r ≡ 48) (take k l)
+take-all-of zero l a = tt
+take-all-of (suc k) [] a = tt
+take-all-of (suc k) (x ∷ xs) a = (a.0, take-all-of k xs a.1)
 
--- rows that are written from the start of a buffer which they fit
-pub page_written : (w : Writer) (es : List NwkNeighbor) (rs : List (List ℕ)) → rs ≡ rows es → w.at ≡ 0 → 816 ≤ length w.out.now → (with_text w (flat_map (λ r. r) rs)).out.now ≡ written es w.out.now
-unfolding written page
-page_written w es rs e z h =
-    ap (λ (t : List ℕ). (with_text w t).out.now) (ap (flat_map (λ r. r)) e) ∙ (from_start w (page es) z (omega (arith, page_size es))).1
-    ∙ sym (ap (λ t. cond t w.out.now (over w.out.now (page es))) (le-ltb (length w.out.now) 816 h))
+-- a text that is stored at the start of the part of a buffer from a place on
+pub part_stored : (b part r : List ℕ) (at : ℕ) → at + length r ≤ length b → part ≡ sets (take (length b - at) (drop at b)) 0 r → put_mid at (length b - at) b part ≡ sets b at r
+part_stored b part r at h q =
+    let t : take (length b - at) (drop at b) ≡ drop at b = take_all (length b - at) (drop at b) (omega (arith, length-drop at b)) in
+    let z : drop (length b - at) (drop at b) ≡ [] = drop_of_length-le (drop at b) {i = length b - at} (omega (arith, length-drop at b)) in
+    let p : part ≡ r ++ drop (at + length r) b =
+    q ∙ ap (λ (l : List ℕ). sets l 0 r) t ∙ sets_over (drop at b) r (omega (arith, length-drop at b))
+    ∙ ap (λ (l : List ℕ). r ++ l) (drop-drop (length r) at b) in
+    (λ i. take at b ++ (p i ++ z i)) ∙ ap (λ (l : List ℕ). take at b ++ l) (append-nil (r ++ drop (at + length r) b))
+    ∙ sym (sets-eq r b at h ∙ append_assoc (take at b) r (drop (at + length r) b))
+
+-- the rows of a page, and the first k of them
+module _ (es : List NwkNeighbor) (rs : List (List ℕ)) (e : rs ≡ rows es) where
+  pub rows-size : length rs ≡ 17
+  rows-size = ap length e ∙ rows-length es 16
+
+  pub taken-size : (k : ℕ) → k ≤ 17 → length (flat_map (λ r. r) (take k rs)) ≡ 48 * k
+  taken-size k h =
+      flat-length (take k rs) (take-all-of k rs (subst (All (λ r. length r ≡ 48)) (sym e) (rows-48 es))) ∙ ap (λ (n : ℕ). 48 * n) (length-take-le k rs (omega (arith, rows-size)))

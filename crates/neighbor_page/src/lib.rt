@@ -2,7 +2,7 @@
 #![tactic(auto)]
 
 ghost use Rattle.std.specs.Prelude.{◌≡◌, ◌++◌, not, min, length};
-ghost use mathlib.Core.List.{flat_map};
+ghost use Rattle.std.proofs.lemmas.List.Edits.{sets};
 ghost use Rattle.nib.specs.Neighbors.{entries_of};
 ghost use Rattle.text.specs.Writer.{with_text};
 ghost use Rattle.neighbor_page.specs.Private.{hex_column, number_column};
@@ -113,18 +113,15 @@ fn rows_of(table: NeighborTable) -> [[u8; 48]; 17]
     rows
 }
 
-// Writes rows one behind the other.
-#[tactic(auto, using(text::proofs::Written::in_turn, crate::proofs::Form::rows_in_turn))]
-fn write_rows(out: &mut Writer, rows: &[[u8; 48]; 17])
-    ensures { out.new ≡ with_text out.old (flat_map (λ r. r) rows.now) }
+// Writes a row at the start of its part of the page.
+fn write_row(part: &mut [u8], row: &[u8; 48])
+    ensures { part.new ≡ sets part.old 0 row.now }
 {
-    for row in rows {
-        out.write(row);
-    }
+    text::write(part, 0, row);
 }
 
 // Writes the page of a table at the start of a lent buffer, and says whether that was done: one shorter than a page stays as it is.
-#[tactic(auto, unfolding(text::specs::Writer::with_text), using(crate::proofs::Form::page_kept, crate::proofs::Form::page_written))]
+// Each row is lent its own part of the buffer.
 pub fn write_page(page: &mut [u8], table: NeighborTable) -> bool
     ensures { (result ≡ not (too_short (length page.old))) × (page.new ≡ written (entries_of table) page.old) }
 {
@@ -132,6 +129,8 @@ pub fn write_page(page: &mut [u8], table: NeighborTable) -> bool
         return false;
     }
     let rows = rows_of(table);
-    write_rows(&mut Writer::new(page), &rows);
+    for (k, row) in rows.iter().enumerate() {
+        write_row(&mut page[k * 48..], row);
+    }
     true
 }
