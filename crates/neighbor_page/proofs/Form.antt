@@ -28,7 +28,7 @@ pub filled : (w : Writer) (t : List ℕ) → w.at ≡ 0 → length t ≡ length 
 filled w t z h =
     (from_start w t z (omega (arith, h))).1 ∙ ap (λ (l : List ℕ). t ++ l) (drop_of_length-le w.out.now (omega (arith, h))) ∙ append-nil t
 
-pub first-48 : length first_row ≡ 48
+first-48 : length first_row ≡ 48
 unfolding first_row row zip_with flat_map
 first-48 = refl
 
@@ -49,7 +49,7 @@ unfolding entry_row
 entry_48 i e =
     ap length (columns i e.network_address.0 e.extended_pan_id.0 e.pan_id.0 e.logical_channel e.depth e.lqi (link_cost e.lqi) e.relationship) ∙ simp (length-append, number-size, hex-size)
 
-pub slot-48 : (i : ℕ) (n : Option NwkNeighbor) → length (slot_row i n) ≡ 48
+slot-48 : (i : ℕ) (n : Option NwkNeighbor) → length (slot_row i n) ≡ 48
 unfolding slot_row
 slot-48 i None = blank-48
 slot-48 i (Some e) = entry_48 i e
@@ -62,7 +62,7 @@ pub rows-48 : (es : List NwkNeighbor) → All (λ r. length r ≡ 48) (rows es)
 rows-48 es = (first-48, slots-48 es (below 16))
 
 -- rows one behind the other
-pub flat-length : (rs : List (List ℕ)) → All (λ r. length r ≡ 48) rs → length (flat_map (λ r. r) rs) ≡ 48 * length rs
+flat-length : (rs : List (List ℕ)) → All (λ r. length r ≡ 48) rs → length (flat_map (λ r. r) rs) ≡ 48 * length rs
 unfolding flat_map
 flat-length [] a = sym (mul-zero 48)
 flat-length (r ∷ rs) a = length-append r (flat_map (λ r. r) rs) ∙ omega (arith, a.0, flat-length rs a.1, mul-suc 48 (length rs))

@@ -40,7 +40,7 @@ fn write_number(row: &mut Writer, n: u8, width: usize, end: u8)
     row.write(&[end]);
 }
 
-// Writes a column with an address or a PAN id.
+// Writes a column with an address or a PAN id, and the space behind it.
 #[tactic(auto, using(text::proofs::Written::in_turn), unfolding(crate::specs::Private::hex_column))]
 fn write_short(row: &mut Writer, n: u16)
     ensures { row.new ≡ with_text row.old (hex_column 4 n) }
@@ -49,7 +49,7 @@ fn write_short(row: &mut Writer, n: u16)
     row.write(b" ");
 }
 
-// Writes a column with an extended PAN id.
+// Writes a column with an extended PAN id, and the space behind it.
 #[tactic(auto, using(text::proofs::Written::in_turn), unfolding(crate::specs::Private::hex_column))]
 fn write_extended(row: &mut Writer, n: u64)
     ensures { row.new ≡ with_text row.old (hex_column 16 n) }
@@ -58,7 +58,7 @@ fn write_extended(row: &mut Writer, n: u64)
     row.write(b" ");
 }
 
-// Writes the columns with an entry's address and ids.
+// Writes the columns with an entry's address and ids, each with the space behind it.
 #[tactic(auto, using(text::proofs::Written::in_turn))]
 fn write_ids(row: &mut Writer, e: &NwkNeighbor)
     ensures { row.new ≡ with_text row.old (hex_column 4 e.now.network_address.0 ++ (hex_column 16 e.now.extended_pan_id.0 ++ hex_column 4 e.now.pan_id.0)) }
