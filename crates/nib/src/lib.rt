@@ -9,26 +9,27 @@ ghost use Rattle.nib.specs.Attributes.{blank_nib};
 pub mod neighbor_table;
 
 // The identifiers are distinct types, so that none is taken for another.
-#[derive(Clone, Copy, PartialEq, Eq)]
+#[derive(Clone, Copy, PartialEq, Eq, Default)]
 pub struct PanId(pub u16);
 
-#[derive(Clone, Copy, PartialEq, Eq)]
+#[derive(Clone, Copy, PartialEq, Eq, Default)]
 pub struct ShortAddress(pub u16);
 
-#[derive(Clone, Copy, PartialEq, Eq)]
+#[derive(Clone, Copy, PartialEq, Eq, Default)]
 pub struct ExtendedPanId(pub u64);
 
-#[derive(Clone, Copy, PartialEq, Eq)]
+#[derive(Clone, Copy, PartialEq, Eq, Default)]
 pub struct IeeeAddress(pub u64);
 
-pub const NWK_COORDINATOR_ADDRESS: u16 = 0x0000;
+pub const NWK_COORDINATOR_ADDRESS: ShortAddress = ShortAddress(0x0000);
 
 // The short address of a device that is not joined (Zigbee 3.6.1.10.4).
-pub const NWK_UNASSIGNED_ADDRESS: u16 = 0xffff;
+pub const NWK_UNASSIGNED_ADDRESS: ShortAddress = ShortAddress(0xffff);
 
 // The broadcast to all devices, and the lowest broadcast address (Zigbee Table 3-68).
-pub const NWK_BROADCAST_ALL: u16 = 0xffff;
+pub const NWK_BROADCAST_ALL: ShortAddress = ShortAddress(0xffff);
 
+// A number: what is asked is whether an address is below it, and only the numbers of addresses have an order.
 pub const NWK_BROADCAST_ADDRESS_MIN: u16 = 0xfff8;
 
 // What a neighbour is to this device (Zigbee Table 3-63).
@@ -67,6 +68,7 @@ pub fn link_cost_from_lqi(lqi: u8) -> u8
 pub struct CapabilityInformation(pub u8);
 
 impl CapabilityInformation {
+    // One method for each bit that is read, named as the source names the field: each is one line over the byte as it is sent.
     // Bit 1: the device joins as a router.
     pub fn device_type(self) -> bool
         ensures { result ≡ bit 1 self.0 }
@@ -126,7 +128,7 @@ impl Nib {
         ensures { result ≡ blank_nib ieee_address }
     {
         Nib {
-            network_address: ShortAddress(NWK_UNASSIGNED_ADDRESS),
+            network_address: NWK_UNASSIGNED_ADDRESS,
             ieee_address,
             extended_panid: ExtendedPanId(0),
             panid: PanId(0xffff),
@@ -141,8 +143,9 @@ impl Nib {
     }
 }
 
-#[derive(Clone, Copy)]
+#[derive(Clone, Copy, Default)]
 pub enum DeviceType {
+    #[default]
     Coordinator,
     Router,
     EndDevice,
@@ -150,17 +153,18 @@ pub enum DeviceType {
 }
 
 // The device type of a beacon's sender, by its short address.
+#[tactic(auto, unfolding(crate::specs::Neighbors::device_type_at))]
 pub fn device_type_at(address: ShortAddress) -> DeviceType
     ensures { result ≡ device_type_at address.0 }
 {
-    if address.0 == NWK_COORDINATOR_ADDRESS {
+    if address == NWK_COORDINATOR_ADDRESS {
         return DeviceType::Coordinator;
     }
     DeviceType::Router
 }
 
 // A neighbour entry, in the source's field order. An IEEE address of 0 is not known.
-#[derive(Clone, Copy)]
+#[derive(Clone, Copy, Default)]
 pub struct NwkNeighbor {
     pub extended_address: IeeeAddress,
     pub network_address: ShortAddress,
@@ -195,27 +199,7 @@ pub struct NeighborTable {
 fn blank_entry() -> NwkNeighbor
     ensures { result ≡ blank }
 {
-    NwkNeighbor {
-        extended_address: IeeeAddress(0),
-        network_address: ShortAddress(0),
-        device_type: DeviceType::Coordinator,
-        rx_on_when_idle: false,
-        end_device_configuration: 0,
-        relationship: 0,
-        lqi: 0,
-        outgoing_cost: 0,
-        age: 0,
-        keepalive_received: false,
-        extended_pan_id: ExtendedPanId(0),
-        logical_channel: 0,
-        depth: 0,
-        permit_joining: false,
-        potential_parent: 0,
-        router_capacity: false,
-        end_device_capacity: false,
-        update_id: 0,
-        pan_id: PanId(0),
-    }
+    NwkNeighbor::default()
 }
 
 impl NeighborTable {
@@ -223,8 +207,7 @@ impl NeighborTable {
     pub fn new() -> NeighborTable
         ensures { result ≡ table_of [] }
     {
-        let none = blank_entry();
-        let entries = [none; MAX_NEIGBOUR_TABLE as usize];
+        let entries = [blank_entry(); MAX_NEIGBOUR_TABLE as usize];
         NeighborTable { entries, count: 0 }
     }
 
@@ -249,18 +232,22 @@ impl NeighborTable {
         self.used().get(index as usize).copied()
     }
 
+    // One entry more at the end, or none where the table is full: written in place, as a table is large to hand over.
+    #[tactic(auto, unfolding(crate::specs::Neighbors::pushed))]
+    pub fn add(&mut self, e: NwkNeighbor)
+        ensures { self.new ≡ pushed self.old e }
+    {
+        if self.count < MAX_NEIGBOUR_TABLE {
+            self.entries[self.count as usize] = e;
+            self.count += 1;
+        }
+    }
+
     // The table with one entry more at its end, or as it is where it is full.
-    pub fn push(self, e: NwkNeighbor) -> NeighborTable
+    pub fn push(mut self, e: NwkNeighbor) -> NeighborTable
         ensures { result ≡ pushed self e }
     {
-        let count = self.count;
-        let mut out = self;
-        if MAX_NEIGBOUR_TABLE <= count {
-            return out;
-        }
-        let at = count as usize;
-        out.entries[at] = e;
-        out.count = count + 1;
-        out
+        self.add(e);
+        self
     }
 }

@@ -19,6 +19,7 @@ fn parent_place(used: &[NwkNeighbor]) -> Option<usize>
 }
 
 // The index of the parent, the first entry with relationship PARENT, or the number of entries where there is none.
+// A number and no `Option`: at the number of entries nothing is found and nothing is changed, so no caller tests which of the two it is.
 pub fn parent_index(table: NeighborTable) -> u8
     ensures { result ≡ first_index is_parent (entries_of table) }
 {
@@ -97,8 +98,11 @@ fn change_all<F: Fn(&mut NwkNeighbor)>(mut table: NeighborTable, change: F) -> N
     requires { F.IsAlwaysCallable change }
     ensures { (f : NwkNeighbor → NwkNeighbor) → Changes (F.post change) f → result ≡ on_entries (map f) table }
 {
-    for i in 0..table.len() as usize {
-        change(&mut table.entries[i]);
+    let used = table.len() as usize;
+    // not `table.entries[..used].iter_mut()`: after that loop a proof knows nothing of the entries
+    let (front, _) = table.entries.split_at_mut(used);
+    for e in front.iter_mut() {
+        change(e);
     }
     table
 }
@@ -172,7 +176,7 @@ pub fn retain(table: NeighborTable, address: ShortAddress) -> NeighborTable
     for e in table.used() {
         let kept = e.network_address != address;
         if kept {
-            out = out.push(*e);
+            out.add(*e);
         }
     }
     out

@@ -39,7 +39,7 @@ loop-e-preserved c =
     let few : length l < 16 = omega (arith, retained-long a (take i es), length-take i es) in
     elim c.if-kept.branch [
       | then-kept w ↦ w.out-is
-          ∙ w.push-out.ensures
+          ∙ w.add.ensures
           ∙ ap (λ (t : NeighborTable). pushed t e) c.loop-e.invariant
           ∙ push-of l e few
           ∙ ap table_of (sym (next a i es true h (sym w.if-kept.ensures)))
