@@ -2,7 +2,7 @@
 #![tactic(auto)]
 
 ghost use Rattle.std.specs.Prelude.{◌≤◌, ◌≡◌, [], map, length, take, is_some};
-ghost use Rattle.nib.specs.Neighbors.{table_of, pushed};
+ghost use Rattle.nib.specs.Neighbors.{table_of};
 ghost use Rattle.discovery.specs.Mlme.{descriptors_of};
 ghost use Rattle.discovery.specs.Discovery.{
   potential_parent_of,
@@ -20,12 +20,10 @@ pub mod mlme;
 use crate::mlme::{
     Address, MAX_PAN_DESCRIPTOR_SIZE, PanDescriptor, PanDescriptorList, StackProfile,
 };
-use nib::{
-    ExtendedPanId, IeeeAddress, MAX_NEIGBOUR_TABLE, NeighborTable, NwkNeighbor, PanId, ShortAddress,
-};
+use nib::{ExtendedPanId, NeighborTable, NwkNeighbor, PanId, ShortAddress};
 
 // What a discovery tells of one beacon.
-#[derive(Clone, Copy)]
+#[derive(Clone, Copy, Default)]
 pub struct NetworkDescriptor {
     pub extended_pan_id: ExtendedPanId,
     pub pan_id: PanId,
@@ -59,7 +57,7 @@ fn potential_parent(profile: StackProfile, address: ShortAddress) -> u8
     u8::from(
         profile.router_capacity()
             || profile.end_device_capacity()
-            || address.0 == nib::NWK_COORDINATOR_ADDRESS,
+            || address == nib::NWK_COORDINATOR_ADDRESS,
     )
 }
 
@@ -71,16 +69,10 @@ fn entry_from(pd: PanDescriptor, address: ShortAddress) -> NwkNeighbor
     let beacon = pd.zigbee_beacon;
     let profile = beacon.stack_profile;
     NwkNeighbor {
-        extended_address: IeeeAddress(0),
         network_address: address,
         device_type: nib::device_type_at(address),
-        rx_on_when_idle: false,
-        end_device_configuration: 0,
         relationship: nib::relationship::NONE,
         lqi: pd.link_quality,
-        outgoing_cost: 0,
-        age: 0,
-        keepalive_received: false,
         extended_pan_id: beacon.extended_pan_id,
         logical_channel: pd.channel,
         depth: profile.device_depth(),
@@ -90,6 +82,7 @@ fn entry_from(pd: PanDescriptor, address: ShortAddress) -> NwkNeighbor
         end_device_capacity: profile.end_device_capacity(),
         update_id: beacon.update_id,
         pan_id: pd.coord_pan_id,
+        ..NwkNeighbor::default()
     }
 }
 
@@ -105,24 +98,26 @@ fn neighbor_from(pd: PanDescriptor) -> Option<NwkNeighbor>
 }
 
 // What the confirm tells of a descriptor.
-fn network_descriptor(pd: PanDescriptor) -> NetworkDescriptor
-    ensures { result ≡ network_descriptor_of pd }
-{
-    let beacon = pd.zigbee_beacon;
-    let profile = beacon.stack_profile;
-    let superframe = pd.superframe_spec;
-    NetworkDescriptor {
-        extended_pan_id: beacon.extended_pan_id,
-        pan_id: pd.coord_pan_id,
-        update_id: beacon.update_id,
-        logical_channel: pd.channel,
-        stack_profile: profile.stack_profile(),
-        zigbee_version: profile.protocol_version(),
-        beacon_order: superframe.beacon_order,
-        superframe_order: superframe.superframe_order,
-        permit_joining: superframe.association_permit,
-        router_capacity: profile.router_capacity(),
-        end_device_capacity: profile.end_device_capacity(),
+impl From<PanDescriptor> for NetworkDescriptor {
+    ghost from_gives = { λ pd r. r ≡ network_descriptor_of pd };
+
+    fn from(pd: PanDescriptor) -> NetworkDescriptor {
+        let beacon = pd.zigbee_beacon;
+        let profile = beacon.stack_profile;
+        let superframe = pd.superframe_spec;
+        NetworkDescriptor {
+            extended_pan_id: beacon.extended_pan_id,
+            pan_id: pd.coord_pan_id,
+            update_id: beacon.update_id,
+            logical_channel: pd.channel,
+            stack_profile: profile.stack_profile(),
+            zigbee_version: profile.protocol_version(),
+            beacon_order: superframe.beacon_order,
+            superframe_order: superframe.superframe_order,
+            permit_joining: superframe.association_permit,
+            router_capacity: profile.router_capacity(),
+            end_device_capacity: profile.end_device_capacity(),
+        }
     }
 }
 
@@ -153,16 +148,6 @@ pub fn short_addressed(list: PanDescriptorList) -> usize
     in_use(&list).iter().filter(|pd| is_short(*pd)).count()
 }
 
-// One entry more at the end of a table, or none where it is full: written in place, as the table that is made is large to hand over.
-fn add(table: &mut NeighborTable, e: NwkNeighbor)
-    ensures { table.new ≡ pushed table.old e }
-{
-    if table.count < MAX_NEIGBOUR_TABLE {
-        table.entries[table.count as usize] = e;
-        table.count += 1;
-    }
-}
-
 // The neighbour table of a scan: its short-addressed descriptors in their order, at most 16.
 pub fn neighbor_table_from(list: PanDescriptorList) -> NeighborTable
     ensures { result ≡ table_of (take 16 (neighbors_of (descriptors_of list))) }
@@ -170,7 +155,7 @@ pub fn neighbor_table_from(list: PanDescriptorList) -> NeighborTable
     let mut table = NeighborTable::new();
     for pd in in_use(&list) {
         if let Some(e) = neighbor_from(*pd) {
-            add(&mut table, e);
+            table.add(e);
         }
     }
     table
@@ -180,19 +165,7 @@ pub fn neighbor_table_from(list: PanDescriptorList) -> NeighborTable
 fn blank_descriptor() -> NetworkDescriptor
     ensures { result ≡ blank_descriptor }
 {
-    NetworkDescriptor {
-        extended_pan_id: ExtendedPanId(0),
-        pan_id: PanId(0),
-        update_id: 0,
-        logical_channel: 0,
-        stack_profile: 0,
-        zigbee_version: 0,
-        beacon_order: 0,
-        superframe_order: 0,
-        permit_joining: false,
-        router_capacity: false,
-        end_device_capacity: false,
-    }
+    NetworkDescriptor::default()
 }
 
 // A confirm that tells of no network.
@@ -212,7 +185,7 @@ pub fn network_descriptors(list: PanDescriptorList) -> NlmeNetworkDiscoveryConfi
     let used = in_use(&list);
     let mut confirm = no_networks();
     for (i, pd) in used.iter().enumerate() {
-        confirm.network_descriptor[i] = network_descriptor(*pd);
+        confirm.network_descriptor[i] = NetworkDescriptor::from(*pd);
     }
     confirm.count = used.len() as u8;
     confirm

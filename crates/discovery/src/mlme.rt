@@ -25,6 +25,7 @@ pub struct SuperframeSpecification {
 pub struct StackProfile(pub u16);
 
 impl StackProfile {
+    // One method for each field that is read, named as the source names the field: each is one line over the two bytes as they are received.
     // Bits 0 to 3: the stack profile.
     pub fn stack_profile(self) -> u8
         ensures { result ≡ bits 0 4 self.0 }

@@ -8,5 +8,5 @@ use Rattle.discovery.proofs.network_descriptors.Goals as goal
 -- one descriptor more: the store at i puts its image behind those of the first i (`map_next`)
 pub loop-i-preserved : goal.loop-i-preserved
 loop-i-preserved c =
-    rw (c.loop-i.invariant, c.network_descriptor.ensures)
+    rw (c.loop-i.invariant, c.from.ensures)
     (map_next network_descriptor_of (replicate 27 blank_descriptor) c.in_use-used.result.now c.loop-i.i no_descriptor c.loop-i-test.true (omega (arith, c.in_use-used.ensures.few)))
