@@ -44,6 +44,8 @@ fn left(list: &CandidateList, from: u8) -> &[u8]
 }
 
 // The index being tried in a table of `count` entries, `count` where there is none.
+// A number and no `Option`: at `count` the table has nothing to read or to change, so no caller tests which of the two it is.
+// `count` and `candidates` go together here and in three more, and no struct: callers have the two at hand, and would make the struct for this one call.
 pub fn tried_index(count: u8, candidates: Candidates) -> u8
     ensures { result ≡ tried_index count candidates }
 {
@@ -66,7 +68,7 @@ fn first_below(indexes: &[u8], limit: u8) -> Option<u8>
     indexes.iter().copied().find(|i| *i < limit)
 }
 
-// The next index to be tried in a table of `count` entries, `count` where there is none: those not below it are skipped.
+// The next index to be tried in a table of `count` entries, `count` where there is none: those not below it are skipped. A number as above.
 pub fn next_index(count: u8, candidates: Candidates) -> u8
     ensures { result ≡ next_index count candidates }
 {
