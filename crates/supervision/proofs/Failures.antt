@@ -9,16 +9,20 @@ use mathlib.Core.List.{List, [], ◌∷◌, ◌++◌}
 use native.Mathlib.Omega.{arith}
 use borrow.Author.Tests.{ltb-true, ltb-false}
 use lib.Dec.{ltb}
-use lib.ListN.{length, take, drop, get_or, get_or-append, set, replicate, length-append, length-set}
+use lib.ListN.{length, take, drop, get_or, get_or-append, set, replicate, length-append, length-set, length-take}
 use lib.Seq.{length-take-le}
 use Rattle.lists.specs.Lists.{first_index, change_at}
 use Rattle.lists.specs.Private.{remove_at}
 use Rattle.lists.proofs.Lists.{over-snoc, take_next}
 use Rattle.lists.proofs.Pairs.{over-set, change-is, remove-snoc, remove-last, remove-le}
-use Rattle.supervision.specs.Failures.{blank_pair, failures_of, counted_once, one_more}
+use Rattle.supervision.specs.Failures.{blank_pair, pairs_of, failures_of, counted_once, one_more}
 use Rattle.supervision.specs.declared.TransmitFailure.{TransmitFailure}
 use Rattle.supervision.specs.declared.TransmitFailures.{TransmitFailures}
 use Rattle.supervision.specs.declared.Recorded.{Recorded}
+
+-- the array has 16 slots, so at most 16 pairs are in use
+pub pairs-few : (f : TransmitFailures) → length f.pairs ≡ 16 → length (pairs_of f) ≤ 16
+pairs-few f n = omega (arith, length-take f.count f.pairs)
 
 -- one pair more
 abbrev pub pair_pushed : TransmitFailures → TransmitFailure → TransmitFailures

@@ -54,6 +54,7 @@ pub fn keepalive_interval_ms(end_device_timeout: u8) -> Option<u32>
 }
 
 // The keepalive that the parent expects; the source's `None` is `NoKeepalive`.
+// A case of its own and no `Option`: the source's enum has it, and a tick goes by one of the three.
 #[derive(Clone, Copy)]
 pub enum KeepaliveMethod {
     MacDataPoll,
@@ -61,7 +62,7 @@ pub enum KeepaliveMethod {
     NoKeepalive,
 }
 
-// The method that the parent information names.
+// The method that the parent information names: bit 0 offers polls, bit 1 the timeout request. Each is read in this one place.
 #[tactic(auto, unfolding(crate::specs::Keepalive::offered))]
 fn offered_method(parent_information: u8) -> KeepaliveMethod
     ensures { result ≡ offered parent_information }
@@ -101,7 +102,7 @@ pub fn negotiated_poll_interval_ms(end_device_timeout: u8, parent_information: u
 pub const MAX_PARENT_TRANSMIT_FAILURES: u8 = 3;
 
 // A neighbour, and how many data sends through it failed since the last that succeeded.
-#[derive(Clone, Copy)]
+#[derive(Clone, Copy, Default)]
 pub struct TransmitFailure {
     pub address: ShortAddress,
     pub count: u8,
@@ -120,18 +121,13 @@ impl TransmitFailures {
     pub fn new() -> TransmitFailures
         ensures { result ≡ failures_of [] }
     {
-        let none = TransmitFailure {
-            address: ShortAddress(0),
-            count: 0,
-        };
-        let pairs = [none; MAX_NEIGBOUR_TABLE as usize];
+        let pairs = [TransmitFailure::default(); MAX_NEIGBOUR_TABLE as usize];
         TransmitFailures { pairs, count: 0 }
     }
 
-    // The pairs in use: all 16 where the count says more.
-    fn in_use(&self) -> &[TransmitFailure]
-        ensures pairs { result.now ≡ pairs_of self.now }
-        ensures few { length result.now ≤ 16 }
+    // The pairs in use: as many as the count says, all 16 where it says more.
+    pub fn used(&self) -> &[TransmitFailure]
+        ensures { result.now ≡ pairs_of self.now }
     {
         lists::in_use(&self.pairs, self.count as usize)
     }
@@ -140,7 +136,7 @@ impl TransmitFailures {
     fn find(&self, neighbor: ShortAddress) -> Option<usize>
         ensures { result ≡ position (of_address neighbor) (pairs_of self.now) }
     {
-        self.in_use().iter().position(|p| p.address == neighbor)
+        self.used().iter().position(|p| p.address == neighbor)
     }
 
     // One pair more behind those in use.
@@ -157,7 +153,7 @@ impl TransmitFailures {
         ensures { result ≡ failures_of (remove_at place (pairs_of self.now)) }
     {
         let mut out = TransmitFailures::new();
-        for (i, p) in self.in_use().iter().enumerate() {
+        for (i, p) in self.used().iter().enumerate() {
             if i != place {
                 out.push(*p);
             }
@@ -169,7 +165,7 @@ impl TransmitFailures {
     fn blank_unused(&self) -> TransmitFailures
         ensures { result ≡ failures_of (pairs_of self.now) }
     {
-        self.without(self.in_use().len())
+        self.without(self.used().len())
     }
 
     // The pair at a place counts one failure more; a count of 255 stays.
@@ -191,7 +187,7 @@ impl TransmitFailures {
         ensures pairs { result ≡ failures_of (with_room (pairs_of self.now)) }
         ensures room { result.count < 16 }
     {
-        if self.in_use().len() < self.pairs.len() {
+        if self.used().len() < self.pairs.len() {
             self.blank_unused()
         } else {
             self.without(0)
