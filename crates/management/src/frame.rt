@@ -75,5 +75,5 @@ pub enum SentFrame {
 pub fn next_nwk_seq(sequence_number: u8) -> u8
     ensures { result ≡ next_seq sequence_number }
 {
-    std::num::wrapping_add_u8(sequence_number, 1)
+    sequence_number.wrapping_add(1)
 }

@@ -47,7 +47,8 @@ pub enum NlmeJoinStatus {
     MacError,
 }
 
-// The answer to a join.
+// The answer to a join: NLME-JOIN's confirm with the fields of the source's.
+// No `Result`: in a failure too the owner is handed all of it, with the address 0xffff and the id and channel 0.
 #[derive(Clone, Copy)]
 pub struct NlmeJoinConfirm {
     pub status: NlmeJoinStatus,
@@ -128,7 +129,7 @@ pub struct EndDeviceTimeoutResponse {
 }
 
 // What was received and is still to be taken: each slot keeps the newest value until it is taken, and is empty otherwise.
-#[derive(Clone, Copy)]
+#[derive(Clone, Copy, Default)]
 pub struct Signals {
     pub rejoin_response: Option<RejoinResponse>,
     pub timeout_response: Option<EndDeviceTimeoutResponse>,
@@ -141,12 +142,7 @@ impl Signals {
     pub fn new() -> Signals
         ensures { result ≡ no_signals }
     {
-        Signals {
-            rejoin_response: None,
-            timeout_response: None,
-            leave_indication: None,
-            nwk_status_indication: None,
-        }
+        Signals::default()
     }
 
     // Each of these replaces the value of one slot, or empties it; the other three stay.

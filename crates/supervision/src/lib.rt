@@ -54,7 +54,7 @@ pub fn keepalive_interval_ms(end_device_timeout: u8) -> Option<u32>
 }
 
 // The keepalive that the parent expects; the source's `None` is `NoKeepalive`.
-// A case of its own and no `Option`: the source's enum has it, and a tick goes by one of the three.
+// A case of its own and no `Option`: the source's enum has it, and callers decide among the three in one `match`.
 #[derive(Clone, Copy)]
 pub enum KeepaliveMethod {
     MacDataPoll,
