@@ -3,7 +3,8 @@
 
 ghost use Rattle.std.specs.Prelude.{◌≡◌};
 ghost use Rattle.supervision.specs.Keepalive.{keepalive_interval_ms, keepalive_method, negotiated_poll_interval_ms};
-ghost use Rattle.nlme.specs.Nlme.{new_nlme, parent_address, link_failure, refreshed, negotiation_reset, command_header, seq_used, timeout_requested, nlme_ticked, sent_via_parent, failed_via_parent};
+ghost use Rattle.management.specs.declared.frame.SentFrame.{SentFrame};
+ghost use Rattle.nlme.specs.Nlme.{new_nlme, parent_address, link_failure, refreshed, negotiation_reset, command_header, seq_used, transmission, timeout_requested, nlme_ticked, sent_via_parent, failed_via_parent};
 
 pub mod received;
 
@@ -64,10 +65,7 @@ pub struct ViaParent {
 pub fn parent_address(parent: Option<NwkNeighbor>) -> ShortAddress
     ensures { result ≡ parent_address parent }
 {
-    parent.map_or(
-        ShortAddress(nib::NWK_UNASSIGNED_ADDRESS),
-        |e| e.network_address,
-    )
+    parent.map_or(nib::NWK_UNASSIGNED_ADDRESS, |e| e.network_address)
 }
 
 impl Nlme {
@@ -147,19 +145,32 @@ impl Nlme {
         self
     }
 
+    // The next command frame to a short address in this network, as it is transmitted.
+    pub fn command_to(
+        self,
+        destination: ShortAddress,
+        destination_ieee: Option<IeeeAddress>,
+        secure: bool,
+        command: SentCommand,
+    ) -> Transmission
+        ensures { result ≡ transmission self destination (SentFrame.CommandFrame (command_header self destination destination_ieee secure) command) }
+    {
+        let header = self.command_header(destination, destination_ieee, secure);
+        Transmission {
+            pan_id: self.nib.panid,
+            address: destination,
+            frame: SentFrame::CommandFrame(header, command),
+        }
+    }
+
     // A timeout request to the parent as it is transmitted.
     #[tactic(auto, unfolding(crate::specs::Nlme::timeout_requested))]
     fn timeout_transmission(self, parent: NwkNeighbor) -> Transmission
         ensures { result ≡ (timeout_requested parent self).transmission }
     {
         let ieee = neighbor_table::known_ieee(Some(parent));
-        let header = self.command_header(parent.network_address, ieee, true);
         let command = SentCommand::TimeoutRequest(self.nib.end_device_timeout_default);
-        Transmission {
-            pan_id: self.nib.panid,
-            address: parent.network_address,
-            frame: SentFrame::CommandFrame(header, command),
-        }
+        self.command_to(parent.network_address, ieee, true, command)
     }
 
     // A timeout request to the parent, pending once it is built.

@@ -4,7 +4,7 @@ ghost use Rattle.nib.specs.NeighborTable.{on_entries};
 ghost use Rattle.nlme.specs.Received.{taught_by, taught, rejoin_responded, timeout_signalled, stored, timeout_responded, is_from_parent, leave_indicated, neighbor_leaving, neighbor_left, accepts_leave, leave_to, announcement, dealt_with, leave_requested, leave_handled, handled, left_for, leave_announced};
 
 use crate::{Nlme, Transmission};
-use management::frame::{LeaveOptions, ReceivedFrame, SentCommand, SentFrame, Source};
+use management::frame::{LeaveOptions, ReceivedFrame, SentCommand, Source};
 use management::{
     EndDeviceTimeoutResponse, LeavingDevice, NlmeLeaveIndication, PollAnswer, RejoinResponse,
 };
@@ -140,7 +140,7 @@ fn neighbor_left(mut nlme: Nlme, parent: Option<NwkNeighbor>, source: Source, re
 pub fn accepts_leave_request(nib: Nib, destination: ShortAddress, from_parent: bool) -> bool
     ensures { result ≡ accepts_leave nib destination from_parent }
 {
-    if nib.network_address.0 == nib::NWK_COORDINATOR_ADDRESS
+    if nib.network_address == nib::NWK_COORDINATOR_ADDRESS
         || nib::NWK_BROADCAST_ADDRESS_MIN <= destination.0
     {
         false
@@ -160,43 +160,38 @@ fn leave_to(
 ) -> Transmission
     ensures { result ≡ leave_to nlme address ieee rejoin remove_children }
 {
-    let header = nlme.command_header(address, ieee, true);
     let options = LeaveOptions {
         request: false,
         rejoin,
         remove_children,
     };
-    Transmission {
-        pan_id: nlme.nib.panid,
-        address,
-        frame: SentFrame::CommandFrame(header, SentCommand::Leave(options)),
-    }
+    nlme.command_to(address, ieee, true, SentCommand::Leave(options))
 }
 
-// `parent` and `broadcast_ieee` stay two parameters of this function and of the three that hand them on: one of those is public and keeps them.
-#[tactic(auto, unfolding(crate::specs::Received::announcement))]
-fn announce_leave(
-    nlme: Nlme,
+// What is seen in the table when a frame is dealt with: the parent, and the IEEE address that is known of the broadcast address.
+#[derive(Clone, Copy)]
+struct Seen {
     parent: Option<NwkNeighbor>,
     broadcast_ieee: Option<IeeeAddress>,
-    options: LeaveOptions,
-) -> Transmission
-    ensures { result ≡ announcement nlme parent broadcast_ieee options }
+}
+
+#[tactic(auto, unfolding(crate::specs::Received::announcement))]
+fn announce_leave(nlme: Nlme, seen: Seen, options: LeaveOptions) -> Transmission
+    ensures { result ≡ announcement nlme seen.parent seen.broadcast_ieee options }
 {
     if nlme.nib.capability_information.device_type() {
-        let all = ShortAddress(nib::NWK_BROADCAST_ALL);
         leave_to(
             nlme,
-            all,
-            broadcast_ieee,
+            nib::NWK_BROADCAST_ALL,
+            seen.broadcast_ieee,
             options.rejoin,
             options.remove_children,
         )
     } else {
-        let ieee = neighbor_table::known_ieee(parent);
+        let ieee = neighbor_table::known_ieee(seen.parent);
         leave_to(
             nlme,
-            crate::parent_address(parent),
+            crate::parent_address(seen.parent),
             ieee,
             options.rejoin,
             false,
@@ -218,20 +213,19 @@ fn over(nlme: Nlme, answer: PollAnswer) -> Handled
 #[tactic(auto, unfolding(crate::specs::Received::leave_requested))]
 fn handle_leave_request(
     nlme: Nlme,
-    parent: Option<NwkNeighbor>,
-    broadcast_ieee: Option<IeeeAddress>,
+    seen: Seen,
     source: ShortAddress,
     destination: ShortAddress,
     options: LeaveOptions,
 ) -> Handled
-    ensures { result ≡ leave_requested parent broadcast_ieee source destination options nlme }
+    ensures { result ≡ leave_requested seen.parent seen.broadcast_ieee source destination options nlme }
 {
-    let from_parent = is_from_parent(parent, source);
+    let from_parent = is_from_parent(seen.parent, source);
     if !accepts_leave_request(nlme.nib, destination, from_parent) {
         return over(nlme, PollAnswer::PollNothing);
     }
     let announcement = LeaveAnnouncement {
-        transmission: announce_leave(nlme, parent, broadcast_ieee, options),
+        transmission: announce_leave(nlme, seen, options),
         rejoin: options.rejoin,
     };
     Handled {
@@ -244,26 +238,18 @@ fn handle_leave_request(
 #[tactic(auto, unfolding(crate::specs::Received::leave_handled))]
 fn handle_leave_command(
     nlme: Nlme,
-    parent: Option<NwkNeighbor>,
-    broadcast_ieee: Option<IeeeAddress>,
+    seen: Seen,
     source: Source,
     destination: ShortAddress,
     options: LeaveOptions,
 ) -> Handled
-    ensures { result ≡ leave_handled parent broadcast_ieee source destination options nlme }
+    ensures { result ≡ leave_handled seen.parent seen.broadcast_ieee source destination options nlme }
 {
     if options.request {
-        return handle_leave_request(
-            nlme,
-            parent,
-            broadcast_ieee,
-            source.address,
-            destination,
-            options,
-        );
+        return handle_leave_request(nlme, seen, source.address, destination, options);
     }
     Handled {
-        nlme: neighbor_left(nlme, parent, source, options.rejoin),
+        nlme: neighbor_left(nlme, seen.parent, source, options.rejoin),
         removed: Some(source.address),
         then: Then::Over(PollAnswer::PollNothing),
     }
@@ -295,7 +281,11 @@ pub fn process_received_nwk_frame(
             )
         }
         ReceivedFrame::LeaveCommand(source, destination, options) => {
-            handle_leave_command(nlme, parent, broadcast_ieee, source, destination, options)
+            let seen = Seen {
+                parent,
+                broadcast_ieee,
+            };
+            handle_leave_command(nlme, seen, source, destination, options)
         }
         ReceivedFrame::OtherCommand(_) | ReceivedFrame::OtherFrame => over(
             nlme,
@@ -310,7 +300,7 @@ fn leave_network(mut nib: Nib, rejoin: bool) -> Nib
     ensures { result ≡ left_for rejoin nib }
 {
     if !rejoin {
-        nib.network_address = ShortAddress(nib::NWK_UNASSIGNED_ADDRESS);
+        nib.network_address = nib::NWK_UNASSIGNED_ADDRESS;
         nib.extended_panid = ExtendedPanId(0);
         nib.panid = PanId(0xffff);
         nib.update_id = 0;
