@@ -23,6 +23,8 @@ fn keepalive_over(control: Control, nlme: Nlme, answer: KeepaliveAnswer) -> Deci
 }
 
 // A keepalive that fails signals it, whatever the reason; a negotiation says the reason.
+// `control`, `purpose` and `parent` go together here and in the functions below, and no struct: they come from the state, the phase and the table, and are read
+// one by one at once, so a struct of them would be made for one call.
 #[tactic(auto, unfolding(crate::specs::Exchange::timeout_failed))]
 fn timeout_failed(
     control: Control,

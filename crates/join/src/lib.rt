@@ -9,7 +9,7 @@ pub mod association;
 pub mod rejoin;
 
 use management::{NlmeJoinConfirm, NlmeJoinStatus};
-use nib::{CapabilityInformation, ExtendedPanId, ShortAddress};
+use nib::{CapabilityInformation, ExtendedPanId};
 use operation::{Control, Decision, Move, Phase, Step};
 
 // The confirm of a join or rejoin without success.
@@ -18,7 +18,7 @@ fn join_failure(status: NlmeJoinStatus) -> NlmeJoinConfirm
 {
     NlmeJoinConfirm {
         status,
-        network_address: ShortAddress(0xffff),
+        network_address: nib::NWK_UNASSIGNED_ADDRESS,
         extended_pan_id: ExtendedPanId(0),
         channel: 0,
     }

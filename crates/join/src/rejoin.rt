@@ -4,10 +4,10 @@ ghost use Rattle.nlme.specs.Nlme.{seq_used};
 ghost use Rattle.operation.specs.Operation.{with_nlme, with_polls, awaiting, in_phase, poll_on};
 ghost use Rattle.join.specs.Rejoin.{invalid, resolved, operation_for, no_response, rejoin_request, trying, scan_or_end, try_remembered, begun, rejoin_started, adopting, try_next, try_failed, remembering, rejoined, responded, try_goes_on, request_sent};
 
-use management::frame::{SentCommand, SentFrame};
+use management::frame::SentCommand;
 use management::{NlmeJoinConfirm, NlmeJoinRequest, NlmeJoinStatus, RejoinResponse};
 use nib::{ExtendedPanId, NwkNeighbor, neighbor_table};
-use nlme::{Nlme, Transmission};
+use nlme::Nlme;
 use operation::{
     Control, Decision, Move, Note, Operation, Phase, Purpose, RadioRequest, ScanFor, Step,
     TransmissionFor,
@@ -24,7 +24,7 @@ fn is_invalid(nlme: Nlme, request: NlmeJoinRequest) -> bool
     let own = nlme.nib.network_address;
     let remembered = nlme.nib.extended_panid;
     let requested = request.extended_pan_id;
-    own.0 == nib::NWK_UNASSIGNED_ADDRESS
+    own == nib::NWK_UNASSIGNED_ADDRESS
         || remembered.0 != 0 && requested.0 != 0 && remembered != requested
 }
 
@@ -69,15 +69,12 @@ fn rejoin_request(control: Control, parent: NwkNeighbor) -> RadioRequest
 {
     let ieee = neighbor_table::known_ieee(Some(parent));
     let secure = control.operation.security_enabled;
-    let header = control
-        .nlme
-        .command_header(parent.network_address, ieee, secure);
     let command = SentCommand::RejoinRequest(control.nlme.nib.capability_information);
-    RadioRequest::Transmit(Transmission {
-        pan_id: control.nlme.nib.panid,
-        address: parent.network_address,
-        frame: SentFrame::CommandFrame(header, command),
-    })
+    RadioRequest::Transmit(
+        control
+            .nlme
+            .command_to(parent.network_address, ieee, secure, command),
+    )
 }
 
 // The control part of a try that begins.
