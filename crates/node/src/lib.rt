@@ -278,7 +278,7 @@ impl State {
     fn associate(mut self, request: NlmeJoinRequest) -> Answer
         ensures { result ≡ associate request self }
     {
-        if self.control.nlme.nib.network_address.0 != nib::NWK_UNASSIGNED_ADDRESS {
+        if self.control.nlme.nib.network_address != nib::NWK_UNASSIGNED_ADDRESS {
             return self.fail_join(NlmeJoinStatus::InvalidRequest);
         }
         let require_permit_joining = true;
@@ -544,7 +544,7 @@ impl State {
     {
         self.table = received::learn_neighbor(self.table, frame);
         let parent = self.parent();
-        let everyone = ShortAddress(nib::NWK_BROADCAST_ALL);
+        let everyone = nib::NWK_BROADCAST_ALL;
         let broadcast = neighbor_table::neighbor_ieee_address(self.table, everyone);
         let handled = received::process_received_nwk_frame(
             self.control.nlme,
