@@ -20,12 +20,11 @@ pub struct SuperframeSpecification {
     pub association_permit: bool,
 }
 
-// The stack profile field of a beacon, as received.
+// The stack profile field of a beacon, as received. Each part that is read has a method of its own, named as the source names the field: each is one line.
 #[derive(Clone, Copy)]
 pub struct StackProfile(pub u16);
 
 impl StackProfile {
-    // One method for each field that is read, named as the source names the field: each is one line over the two bytes as they are received.
     // Bits 0 to 3: the stack profile.
     pub fn stack_profile(self) -> u8
         ensures { result ≡ bits 0 4 self.0 }

@@ -64,11 +64,11 @@ pub fn link_cost_from_lqi(lqi: u8) -> u8
     }
 }
 
+// What a device says of itself, as the byte that is sent. Each bit that is read has a method of its own, named as the source names the field: each is one line.
 #[derive(Clone, Copy)]
 pub struct CapabilityInformation(pub u8);
 
 impl CapabilityInformation {
-    // One method for each bit that is read, named as the source names the field: each is one line over the byte as it is sent.
     // Bit 1: the device joins as a router.
     pub fn device_type(self) -> bool
         ensures { result ≡ bit 1 self.0 }
