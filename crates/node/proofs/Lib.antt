@@ -1,3 +1,2 @@
 -- The laws of `node`.
-pub mod TurnedDown
 pub mod Writes

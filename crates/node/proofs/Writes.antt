@@ -2,8 +2,10 @@
 use Prim.Native.Nat.{ℕ}
 use mathlib.Core.Path.{◌≡◌, refl, ap, ◌∙◌}
 use mathlib.Core.Bool.{Bool, true, false}
+use mathlib.Core.List.{List}
 use lib.ListN.{length}
 use Rattle.nib.specs.Neighbors.{entries_of}
+use Rattle.nib.specs.declared.NwkNeighbor.{NwkNeighbor}
 use Rattle.nib.specs.declared.NeighborTable.{NeighborTable}
 use Rattle.nib.specs.NeighborTable.{on_entries, marked, adopted, all_cleared, potential_cleared_at}
 use Rattle.nib.proofs.Entries.{on-on, on_same, entries-on, marked-long, adopted-long, potential-long}
@@ -14,33 +16,33 @@ use Rattle.operation.specs.declared.Move.TheVariants.{Stay, TakeNext, AdoptNext,
 use Rattle.node.specs.declared.State.{State}
 use Rattle.node.specs.Looks.{with_table, with_candidates, entries, moved, potential_cleared}
 
+-- a change of the entries that keeps their count
+entries-long : (f : List NwkNeighbor → List NwkNeighbor) (t : NeighborTable) → length (f (entries_of t)) ≡ length (entries_of t) → length (entries_of (on_entries f t)) ≡ length (entries_of t)
+entries-long f t h = ap length (entries-on f t h) ∙ h
+
 -- a change at an index that was looked up among the entries
 module _ (t : NeighborTable) (c : Candidates) where
   cleared-tried : on_entries (potential_cleared_at (tried_index (length (entries_of t)) c)) t ≡ on_entries (potential_cleared_tried c) t
   unfolding potential_cleared_tried
-  cleared-tried = on_same (potential_cleared_at (tried_index (length (entries_of t)) c)) (potential_cleared_tried c) t refl
+  cleared-tried = on_same _ (potential_cleared_tried c) t refl
 
   cleared-long : length (entries_of (on_entries (potential_cleared_tried c) t)) ≡ length (entries_of t)
   unfolding potential_cleared_tried
-  cleared-long =
-      let h = potential-long (tried_index (length (entries_of t)) c) (entries_of t) in
-      ap length (entries-on (potential_cleared_tried c) t h) ∙ h
+  cleared-long = entries-long (potential_cleared_tried c) t (potential-long _ (entries_of t))
 
   adopted-next : on_entries (adopted (next_index (length (entries_of t)) c)) t ≡ on_entries (adopted_next c) t
   unfolding adopted_next
-  adopted-next = on_same (adopted (next_index (length (entries_of t)) c)) (adopted_next c) t refl
+  adopted-next = on_same _ (adopted_next c) t refl
 
   next-long : length (entries_of (on_entries (adopted_next c) t)) ≡ length (entries_of t)
   unfolding adopted_next
-  next-long =
-      let h = adopted-long (next_index (length (entries_of t)) c) (entries_of t) in
-      ap length (entries-on (adopted_next c) t h) ∙ h
+  next-long = entries-long (adopted_next c) t (adopted-long _ (entries_of t))
 
   joined-tried : on_entries all_cleared (on_entries (marked (tried_index (length (entries_of t)) c)) t) ≡ on_entries (joined_tried c) t
   unfolding joined_tried
   joined-tried =
       let i = tried_index (length (entries_of t)) c in
-      on-on (marked i) t (marked-long i (entries_of t)) all_cleared ∙ on_same (λ es. all_cleared (marked i es)) (joined_tried c) t refl
+      on-on (marked i) t (marked-long i (entries_of t)) all_cleared ∙ on_same _ (joined_tried c) t refl
 
 -- the candidate being tried is no longer a potential parent, or stays as it is
 pub clear-is : (b : Bool) (s : State) (n i : ℕ) (t : NeighborTable) → b ≡ true → n ≡ length (entries s) → i ≡ tried_index n s.candidates → t ≡ on_entries (potential_cleared_at i) s.table → with_table t s ≡ potential_cleared b s

@@ -159,23 +159,16 @@ impl State {
     fn refusal(self) -> Option<Refusal>
         ensures { result ≡ refusal self }
     {
-        if self.is_bad() {
-            return Some(Refusal::BadState);
-        }
-        None
+        self.is_bad().then_some(Refusal::BadState)
     }
 
     // The refusal of a start: 5, then 1 if an operation is under way, or none.
     fn start_refusal(self) -> Option<Refusal>
         ensures { result ≡ start_refusal self }
     {
-        if self.is_bad() {
-            return Some(Refusal::BadState);
-        }
-        if operation::is_idle(self.control.operation.phase) {
-            return None;
-        }
-        Some(Refusal::OperationUnderWay)
+        let is_under_way = !operation::is_idle(self.control.operation.phase);
+        self.refusal()
+            .or(is_under_way.then_some(Refusal::OperationUnderWay))
     }
 
     // A call's refusal, where it has one, or else the answer that is made.
@@ -187,6 +180,22 @@ impl State {
             Some(refusal) => self.refuse(refusal),
             None => make(),
         }
+    }
+
+    // Refusal 5, or else the answer that is made.
+    fn unless_bad<F: FnOnce() -> Answer>(self, make: F) -> Answer
+        requires { F.IsAlwaysCallable make }
+        ensures { MatchOption (refusal self) (F.post make result) (λ k. result ≡ refuse k self) }
+    {
+        self.unless(self.refusal(), make)
+    }
+
+    // A start's refusal, where it has one, or else the answer that is made.
+    fn start<F: FnOnce() -> Answer>(self, make: F) -> Answer
+        requires { F.IsAlwaysCallable make }
+        ensures { MatchOption (start_refusal self) (F.post make result) (λ k. result ≡ refuse k self) }
+    {
+        self.unless(self.start_refusal(), make)
     }
 }
 
@@ -258,12 +267,11 @@ impl State {
 // Starts.
 impl State {
     // Starts a discovery of the networks on a range of channels: `Ask(Scan)`. `scan_over` then answers `Discovered` with the confirm, or `DiscoveryFailed`.
+    #[tactic(auto, unfolding(crate::specs::Calls::answer))]
     pub fn start_discovery(self, range: ScanRange) -> Answer
         ensures { result ≡ answer self (discovery range) }
     {
-        self.unless(self.start_refusal(), || {
-            self.decided_on(operation::scan(self.control, ScanFor::Discovery, range))
-        })
+        self.start(|| self.decided_on(operation::scan(self.control, ScanFor::Discovery, range)))
     }
 
     // A join or rejoin ends without success.
@@ -303,53 +311,55 @@ impl State {
             RejoinNetwork::NwkRejoin => {
                 self.decided_on(rejoin::start_rejoin(self.control, request, self.parent()))
             }
-            RejoinNetwork::Orphan => self.fail_join(NlmeJoinStatus::InvalidRequest),
-            RejoinNetwork::ChannelChange => self.fail_join(NlmeJoinStatus::InvalidRequest),
+            RejoinNetwork::Orphan | RejoinNetwork::ChannelChange => {
+                self.fail_join(NlmeJoinStatus::InvalidRequest)
+            }
         }
     }
 
     // Starts a join or a rejoin, as the request says: `Ask(Associate)`, `Ask(Transmit)` or `Ask(Scan)`, or `Joined` at once where it can't be begun. Each
     // outcome brings the next request, until `Joined` says what came of it. A join chooses among the neighbours of the last discovery; a rejoin asks the
     // remembered parent first, and scans by itself.
+    #[tactic(auto, unfolding(crate::specs::Calls::answer))]
     pub fn join(self, request: NlmeJoinRequest) -> Answer
         ensures { result ≡ answer self (join request) }
     {
-        self.unless(self.start_refusal(), || self.join_by(request))
+        self.start(|| self.join_by(request))
     }
 
     // Starts the send of a data frame by way of the parent: `Ask(Transmit)` with its header, then `Sent`. With no parent it is `Sent(SendNotJoined)` at once.
+    #[tactic(auto, unfolding(crate::specs::Calls::answer))]
     pub fn send_data(self, destination: ShortAddress, secure: bool) -> Answer
         ensures { result ≡ answer self (send destination secure) }
     {
-        self.unless(self.start_refusal(), || {
+        self.start(|| {
             let parent = self.parent();
             self.decided_on(exchange::start_send(self.control, destination, secure, parent))
         })
     }
 
     // Polls the parent once: `Ask(Poll)`, then `Polled`. With no parent it is `Polled(PollNotJoined)` at once.
+    #[tactic(auto, unfolding(crate::specs::Calls::answer))]
     pub fn poll(self) -> Answer
         ensures { result ≡ answer self poll }
     {
-        self.unless(self.start_refusal(), || {
-            self.decided_on(exchange::start_poll(self.control, self.parent()))
-        })
+        self.start(|| self.decided_on(exchange::start_poll(self.control, self.parent())))
     }
 
     // Receives one frame without a poll: `Ask(Receive)`, then `Polled`.
+    #[tactic(auto, unfolding(crate::specs::Calls::answer))]
     pub fn receive(self) -> Answer
         ensures { result ≡ answer self receive }
     {
-        self.unless(self.start_refusal(), || {
-            self.decided_on(exchange::start_receive(self.control))
-        })
+        self.start(|| self.decided_on(exchange::start_receive(self.control)))
     }
 
     // The start of a negotiation or a keepalive.
+    #[tactic(auto, unfolding(crate::specs::Calls::answer))]
     fn start_timeout(self, purpose: TimeoutFor) -> Answer
         ensures { result ≡ answer self (timeout purpose) }
     {
-        self.unless(self.start_refusal(), || {
+        self.start(|| {
             let parent = self.parent();
             self.decided_on(negotiation::start_timeout_request(self.control, purpose, parent))
         })
@@ -438,17 +448,16 @@ impl State {
         self.scan_heard(purpose)
     }
 
+    #[tactic(auto, unfolding(crate::specs::Calls::answer, crate::specs::Refusals::outcome))]
     fn scan_answer(self, outcome: Result<PanDescriptorList, MacError>) -> Answer
         ensures { result ≡ answer self (scan outcome) }
     {
-        // By an `if`, and not by `unless`: next it binds what is awaited, and a closure round that is no plainer.
-        if self.is_bad() {
-            return self.refuse(Refusal::BadState);
-        }
-        let Phase::Scan(purpose) = self.control.operation.phase else {
-            return self.refuse(Refusal::NotAwaited);
-        };
-        self.scan_listed(purpose, outcome)
+        self.unless_bad(|| {
+            let Phase::Scan(purpose) = self.control.operation.phase else {
+                return self.refuse(Refusal::NotAwaited);
+            };
+            self.scan_listed(purpose, outcome)
+        })
     }
 
     // The outcome of a scan: a discovery is over, a rejoin goes on. Above 27 descriptors it is turned down by 3, above 16 short-addressed ones by 4; then the
@@ -480,20 +489,19 @@ fn confirm_by(
 // The outcomes of an association, and of a poll or a receive.
 impl State {
     // The outcome of an association: `Joined`, or the next candidate is asked.
+    #[tactic(auto, unfolding(crate::specs::Calls::answer, crate::specs::Refusals::outcome))]
     pub fn association_over(self, outcome: Result<AssociationResponse, MacError>) -> Answer
         ensures { result ≡ answer self (association outcome) }
     {
-        // By an `if`, and not by `unless`: next it looks at what is awaited, and a closure round that is no plainer.
-        if self.is_bad() {
-            return self.refuse(Refusal::BadState);
-        }
-        let Phase::Association = self.control.operation.phase else {
-            return self.refuse(Refusal::NotAwaited);
-        };
-        let tried = self.tried();
-        let next = self.next();
-        let decision = association::decide_association(self.control, outcome, tried, next);
-        self.decided_on(decision)
+        self.unless_bad(|| {
+            let Phase::Association = self.control.operation.phase else {
+                return self.refuse(Refusal::NotAwaited);
+            };
+            let tried = self.tried();
+            let next = self.next();
+            let decision = association::decide_association(self.control, outcome, tried, next);
+            self.decided_on(decision)
+        })
     }
 
     // What a poll or a receive was for goes on.
@@ -573,17 +581,16 @@ impl State {
 
     // The outcome of a poll or a receive, with the frame that it brought. What it was for goes on; an accepted leave request is announced first
     // (`Ask(Transmit)`).
+    #[tactic(auto, unfolding(crate::specs::Calls::answer, crate::specs::Refusals::outcome))]
     pub fn reception_over(self, outcome: Result<Option<ReceivedFrame>, MacError>) -> Answer
         ensures { result ≡ answer self (reception outcome) }
     {
-        // By an `if`, and not by `unless`: next it binds what is awaited, and a closure round that is no plainer.
-        if self.is_bad() {
-            return self.refuse(Refusal::BadState);
-        }
-        let Phase::Reception(purpose) = self.control.operation.phase else {
-            return self.refuse(Refusal::NotAwaited);
-        };
-        self.decide_reception(purpose, outcome)
+        self.unless_bad(|| {
+            let Phase::Reception(purpose) = self.control.operation.phase else {
+                return self.refuse(Refusal::NotAwaited);
+            };
+            self.decide_reception(purpose, outcome)
+        })
     }
 }
 
@@ -600,8 +607,7 @@ fn continuing(
 {
     match purpose {
         Purpose::RejoinResponse => rejoin::try_goes_on(control, parent, next),
-        Purpose::SinglePoll => exchange::end_poll(control, answer),
-        Purpose::SingleReceive => exchange::end_poll(control, answer),
+        Purpose::SinglePoll | Purpose::SingleReceive => exchange::end_poll(control, answer),
         Purpose::TimeoutResponse(timeout) => negotiation::timeout_goes_on(control, timeout, parent),
     }
 }
@@ -667,18 +673,18 @@ impl State {
         }
     }
 
-    // The outcome of a transmission: whether the frame was sent. What it was for goes on.
+    // The outcome of a transmission: whether the frame was sent. What it was for goes on. A `bool`, where the other three are a `Result`: nothing comes with a
+    // frame that was sent, and of one that was not there is nothing more to say.
+    #[tactic(auto, unfolding(crate::specs::Calls::answer, crate::specs::Refusals::outcome))]
     pub fn transmission_over(self, sent: bool) -> Answer
         ensures { result ≡ answer self (transmission sent) }
     {
-        // By an `if`, and not by `unless`: next it binds what is awaited, and a closure round that is no plainer.
-        if self.is_bad() {
-            return self.refuse(Refusal::BadState);
-        }
-        let Phase::Transmission(purpose) = self.control.operation.phase else {
-            return self.refuse(Refusal::NotAwaited);
-        };
-        self.decide_transmission(purpose, sent)
+        self.unless_bad(|| {
+            let Phase::Transmission(purpose) = self.control.operation.phase else {
+                return self.refuse(Refusal::NotAwaited);
+            };
+            self.decide_transmission(purpose, sent)
+        })
     }
 }
 
@@ -686,40 +692,38 @@ impl State {
 impl State {
     // So many milliseconds have passed since the last tick: `Expired(true)` where the parent's timer has just reached 0, which signals ParentLinkFailure, else
     // `Expired(false)`. 0 counts as 1. A timer interrupt that keeps the timer in a record of its own uses `lent_tick::tick_lent`.
+    #[tactic(auto, unfolding(crate::specs::Calls::answer))]
     pub fn tick_parent_timeout(self, elapsed_ms: u32) -> Answer
         ensures { result ≡ answer self (elapsed elapsed_ms) }
     {
-        self.unless(self.refusal(), || {
+        self.unless_bad(|| {
             self.decided_on(exchange::decide_tick(self.control, self.parent(), elapsed_ms))
         })
     }
 
     // Restarts the parent's timer at the negotiated timeout: `Done`. For an owner who has other evidence that the parent still knows this device. Where no
     // timeout is negotiated the timer is inactive then. A timer interrupt with a record of its own loads it anew (`lent_tick::tick_lent`).
+    #[tactic(auto, unfolding(crate::specs::Calls::refresh))]
     pub fn refresh_parent_timeout(self) -> Answer
         ensures { result ≡ refresh self }
     {
-        self.unless(self.refusal(), || {
-            self.decided_on(exchange::refresh_timeout(self.control))
-        })
+        self.unless_bad(|| self.decided_on(exchange::refresh_timeout(self.control)))
     }
 
     // Takes the leave indication out of its slot: `LeaveTaken` with it, or with none.
+    #[tactic(auto, unfolding(crate::specs::Calls::answer))]
     pub fn take_leave_indication(self) -> Answer
         ensures { result ≡ answer self take_leave }
     {
-        self.unless(self.refusal(), || {
-            self.decided_on(exchange::take_leave(self.control))
-        })
+        self.unless_bad(|| self.decided_on(exchange::take_leave(self.control)))
     }
 
     // Takes the status indication out of its slot: `StatusTaken` with it, or with none. Its only status is ParentLinkFailure.
+    #[tactic(auto, unfolding(crate::specs::Calls::answer))]
     pub fn take_nwk_status_indication(self) -> Answer
         ensures { result ≡ answer self take_status }
     {
-        self.unless(self.refusal(), || {
-            self.decided_on(exchange::take_status(self.control))
-        })
+        self.unless_bad(|| self.decided_on(exchange::take_status(self.control)))
     }
 
     // The candidates that a join (`require_permit_joining`) or a rejoin of a network would try now, in order. The state is not changed; refusal 5 has no list.
@@ -779,10 +783,12 @@ impl State {
 
     // Writes the neighbour table as text for the depot screen, 17 rows of 47 characters, each with a line feed, at the start of a lent buffer: `PageWritten`,
     // with the state as handed in. Refusal 6 for a buffer shorter than 816 bytes; after a refusal no byte of it has changed, and those past 816 never do.
+    #[tactic(auto, unfolding(crate::specs::Calls::page_answer, crate::specs::Calls::page_left))]
     pub fn write_neighbor_page(self, page: &mut [u8]) -> Answer
         ensures { (result ≡ page_answer (length page.old) self) × (page.new ≡ page_left page.old self) }
     {
-        // By an `if`, and not by `unless`: next it lends the buffer on, and a closure round that is no plainer.
+        // Tried as `unless_bad`, with a closure that borrows `page`: where it is not called nothing says that it left the page as it was, and the promise that
+        // a refusal changes no byte stayed open.
         if self.is_bad() {
             return self.refuse(Refusal::BadState);
         }

@@ -129,7 +129,7 @@ pub enum Refusal {
 }
 
 impl Refusal {
-    // The number of a refusal.
+    // The number of a refusal. A method, and not `From<Refusal> for u8`: its name says at a call that the number is meant, which `into` would not.
     pub fn number(self) -> u8
         ensures { result ≡ refusal_number self }
     {
@@ -159,6 +159,8 @@ pub enum Step {
 
 // What a decision does with the candidates.
 // Nothing; the next one is tried; the next one is made the parent and tried; or the one being tried becomes the parent.
+// An enum, and not a closure that writes: the theorems read it (`moved` of `node/specs`), and `rt ci` refuses a function that makes a boxed closure and hands
+// it out.
 #[derive(Clone, Copy)]
 pub enum Move {
     Stay,

@@ -3,7 +3,7 @@ use mathlib.Core.Path.{◌≡◌, sym, ap, ◌∙◌}
 use mathlib.Core.Bool.{false}
 use lib.Dec.{ltb}
 use borrow.Author.Tests.{lt-ltb, le-ltb, ltb-false}
-use Rattle.std.specs.Prelude.{Result, Ok}
+use Rattle.std.specs.Prelude.{Result}
 use Rattle.lists.proofs.Conditions.{pick_true, pick-false}
 use Rattle.nib.specs.Neighbors.{table_of}
 use Rattle.nib.specs.declared.NeighborTable.{NeighborTable}
