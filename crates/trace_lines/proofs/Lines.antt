@@ -18,10 +18,9 @@ use Rattle.std.specs.Iterator.{Yields}
 use Rattle.std.specs.List.{zip, enumerate_from}
 use Rattle.std.proofs.lemmas.Iterator.{YieldsList}
 use Rattle.std.proofs.lemmas.Iterator.Consumers.{YieldsList-turn}
-use Rattle.text.specs.Text.{same_text}
 use Rattle.trace_lines.specs.declared.InputKind.{InputKind}
 use Rattle.trace_lines.specs.declared.InputLine.{InputLine}
-use Rattle.trace_lines.specs.TraceLines.{word_of, letters_of, number_of, is_dash, all_fit, fits, zeros, or_zero, line_as, read_by}
+use Rattle.trace_lines.specs.TraceLines.{letters_of, number_of, is_dash, all_fit, fits, zeros, or_zero, line_as, read_by}
 use Rattle.trace_lines.specs.Private.{read_as, read_kind}
 use Rattle.trace_lines.proofs.Zips.{zip-long, zip-few, zip-turn}
 
@@ -113,16 +112,6 @@ module _ (k : InputKind) (fs : List (List ℕ)) where
           self : (x : Bool) → cond x true false ≡ x
           self true = refl
           self false = refl
-
--- a kind by its word
-module _ (k : InputKind) (fs : List (List ℕ)) where
-  pub other_word : same_text (get_or fs 0 []) (word_of k) ≡ false → None ≡ read_kind k fs
-  unfolding fits
-  other_word e = rw e
-
-  pub same_word : same_text (get_or fs 0 []) (word_of k) ≡ true → read_as k fs ≡ read_kind k fs
-  unfolding fits
-  same_word e = rw e
 
 -- the kinds in turn
 module _ (fs : List (List ℕ)) (d : InputKind) where

@@ -240,6 +240,7 @@ fn read_as(kind: InputKind, line: &[u8]) -> Option<InputLine>
 }
 
 // The line by a kind, or none where it doesn't fit.
+#[tactic(auto, unfolding(crate::specs::TraceLines::fits))]
 fn read_kind(kind: InputKind, line: &[u8]) -> Option<InputLine>
     ensures { result ≡ read_kind kind (fields line.now) }
 {
@@ -434,6 +435,7 @@ fn write_fields(out: &mut Writer, line: &[Field])
 }
 
 // Writes a line behind what is written, as far as it fits. A line has at most 20 fields, and so at most 420 bytes; no more are written.
+#[tactic(auto, unfolding(crate::specs::TraceLines::line_text), using(text::proofs::Written::in_turn))]
 pub fn put_line(out: &mut Writer, line: &[Field])
     ensures { out.new ≡ with_text out.old (line_text line.now) }
 {
