@@ -778,6 +778,7 @@ impl Run {
     }
 
     // Answers a line; what is printed is written at the start of a buffer.
+    #[tactic(auto, unfolding(crate::specs::Trace::after, crate::specs::Trace::printed))]
     pub fn answer_line(self, line: &[u8], out: &mut [u8; 16384]) -> Run
         ensures { (result ≡ after line.now self) × (out.new ≡ over out.old (printed line.now self)) }
     {
