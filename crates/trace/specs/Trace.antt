@@ -14,7 +14,7 @@ use Rattle.node.specs.Calls.{page_answer}
 use Rattle.node.specs.declared.State.{State}
 use Rattle.trace_lines.specs.TraceLines.{line_of, line_text}
 use Rattle.trace_input.specs.TraceInput.{call_of}
-use Rattle.trace_calls.specs.TraceCalls.{taken}
+use Rattle.trace_calls.specs.TraceCalls.{before, taken}
 use Rattle.trace_calls.specs.declared.Session.{Session}
 use Rattle.trace_calls.specs.declared.Answered.{Answered}
 use Rattle.trace_calls.specs.declared.Said.{Said}
@@ -105,6 +105,10 @@ turn_of line s = taken (option_map call_of (line_of line)) s
 -- lines are counted from 1, up to the greatest number of 32 bits
 abbrev pub number_after : ℕ → ℕ
 number_after n = min (n + 1) 4294967295
+
+-- before the first line
+abbrev pub run_before : Run
+run_before = record { session = before; number = 0; good = true; length = 0 }
 
 -- one line more: what it prints, and the run after it
 unfoldable pub printed : List ℕ → Run → List ℕ

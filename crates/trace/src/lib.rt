@@ -1,8 +1,7 @@
 // A trace answered line by line: a line read, its call made, and what is said of it printed.
 #![tactic(auto)]
 
-ghost use Rattle.std.specs.Prelude.{◌≡◌, ◌+◌, ◌*◌, ◌≤◌, min, length, option_map};
-ghost use mathlib.Core.List.{[], ◌∷◌};
+ghost use Rattle.std.specs.Prelude.{◌≡◌, [], ◌∷◌, ◌+◌, ◌*◌, ◌≤◌, min, length, option_map};
 ghost use Rattle.lists.specs.Lists.{over};
 ghost use Rattle.nib.specs.Neighbors.{entries_of};
 ghost use Rattle.candidates.specs.Candidates.{items_of};
@@ -46,7 +45,7 @@ ghost use Rattle.trace.specs.Lines.{
   choice_line,
   bad_line,
 };
-ghost use Rattle.trace.specs.Trace.{some_text, lines_text, networks_of, network_count, each_line, told_lines, nlme_lines, state_lines, page_bytes, page_text, text_of, is_bad, turn_of, number_after, printed, after};
+ghost use Rattle.trace.specs.Trace.{some_text, lines_text, networks_of, network_count, each_line, told_lines, nlme_lines, state_lines, page_bytes, page_text, text_of, is_bad, turn_of, number_after, run_before, printed, after};
 
 use candidates::CandidateList;
 use discovery::{NetworkDescriptor, NlmeNetworkDiscoveryConfirm};
@@ -92,7 +91,7 @@ fn print_refusal(out: &mut Writer, refusal: Refusal)
     )
 }
 
-// What has a line of its own.
+// What has a line of its own. No `Display`: these are types of other crates, and `write!` writes numbers by division.
 trait Printed: Copy {
     // the fields of its line
     ghost line: { Self → Line };
@@ -106,9 +105,8 @@ trait Printed: Copy {
 fn print_some<T: Printed>(out: &mut Writer, slot: Option<T>)
     ensures { out.new ≡ with_text out.old (some_text (option_map T.line slot)) }
 {
-    match slot {
-        Some(x) => x.print(out),
-        None => {}
+    if let Some(x) = slot {
+        x.print(out);
     }
 }
 
@@ -246,6 +244,7 @@ impl Printed for EndDeviceTimeoutResponse {
     }
 }
 
+// No `From`, here and in `status_word`, `send_word`, `poll_word`, `negotiation_field` and `keepalive_word`: both types are of other crates.
 fn device_field(device: LeavingDevice) -> Field
     ensures { result ≡ device_field device }
 {
@@ -601,10 +600,7 @@ impl Printed for NetworkDescriptor {
 fn network_count(networks: &Option<NlmeNetworkDiscoveryConfirm>) -> u8
     ensures { result ≡ network_count networks.now }
 {
-    match networks {
-        None => 0,
-        Some(confirm) => confirm.count,
-    }
+    networks.as_ref().map_or(0, |confirm| confirm.count)
 }
 
 // The networks that it found.
@@ -634,7 +630,7 @@ fn print_told(out: &mut Writer, told: Answered)
 fn print_candidates(out: &mut Writer, list: CandidateList)
     ensures { out.new ≡ with_text out.old (line_text (candidates_line (items_of list))) }
 {
-    let used = lists::in_use(&list.indexes, list.count as usize);
+    let used = list.used();
     let mut fields = [Field::Word(Word::Candidates); 17];
     for (i, index) in used.iter().enumerate() {
         fields[i + 1] = Field::U8(*index);
@@ -769,7 +765,20 @@ fn number_after(number: u32) -> u32
 }
 
 impl Run {
+    // Before the first line.
+    pub fn new() -> Run
+        ensures { result ≡ run_before }
+    {
+        Run {
+            session: Session::new(),
+            number: 0,
+            good: true,
+            length: 0,
+        }
+    }
+
     // Answers a line; what is printed is written at the start of a buffer.
+    #[tactic(auto, unfolding(crate::specs::Trace::after, crate::specs::Trace::printed))]
     pub fn answer_line(self, line: &[u8], out: &mut [u8; 16384]) -> Run
         ensures { (result ≡ after line.now self) × (out.new ≡ over out.old (printed line.now self)) }
     {

@@ -1,20 +1,17 @@
 -- A trace's lines taken one by one (compare/FORMAT.md): which may come, what each leaves, and what it says of the node.
-use Rattle.std.specs.Prelude.{Option, Some, None, Result, Ok, Err, ℕ, ◌+◌, ◌-◌, Bool, true, false, cond, [], eqb, ltb, set, replicate}
-use Rattle.nib.specs.Neighbors.{table_of, pushed}
+use Rattle.std.specs.Prelude.{Option, Some, None, Result, Ok, Err, ℕ, ◌+◌, ◌-◌, Bool, true, false, cond, eqb, ltb, set, replicate}
+use Rattle.nib.specs.Neighbors.{pushed}
 use Rattle.discovery.specs.declared.mlme.Address.TheVariants.{Short}
 use Rattle.discovery.specs.declared.mlme.PanDescriptor.{PanDescriptor}
 use Rattle.discovery.specs.declared.mlme.PanDescriptorList.{PanDescriptorList}
 use Rattle.discovery.specs.Mlme.{mac_error}
 use Rattle.discovery.specs.declared.NlmeNetworkDiscoveryConfirm.{NlmeNetworkDiscoveryConfirm}
-use Rattle.candidates.specs.Candidates.{list_of}
-use Rattle.supervision.specs.Failures.{failures_of}
 use Rattle.supervision.specs.declared.TransmitFailure.{TransmitFailure}
 use Rattle.supervision.specs.declared.TransmitFailures.{TransmitFailures}
-use Rattle.management.specs.declared.Signals.{Signals}
-use Rattle.nlme.specs.Fields.{with_failures}
+use Rattle.nlme.specs.Fields.{with_pending, with_timer, with_failures}
+use Rattle.nlme.specs.Nlme.{new_nlme}
 use Rattle.nlme.specs.declared.Nlme.{Nlme}
-use Rattle.operation.specs.declared.Operation.{Operation}
-use Rattle.operation.specs.declared.Phase.TheVariants.{Idle}
+use Rattle.node.specs.Beginning.{new_state}
 use Rattle.node.specs.Looks.{with_table}
 use Rattle.operation.specs.declared.TimeoutFor.{TimeoutFor}
 use Rattle.node.specs.Calls.{with_node, scanned, choose}
@@ -36,45 +33,11 @@ use Rattle.discovery.specs.declared.mlme.MacError.{MacError}
 
 -- The state that a `node` line begins: "no neighbours, no pairs, every slot empty, no operation under way"
 
-abbrev pub no_signals : Signals
-no_signals =
-    record {
-      rejoin_response = None;
-      timeout_response = None;
-      leave_indication = None;
-      nwk_status_indication = None;
-    }
-
 abbrev pub own_part : NodeFields → Nlme
-own_part l =
-    record {
-      nib = l.nib;
-      nwk_seq = l.nwk_seq;
-      pending_timeout_request = l.pending_timeout_request;
-      parent_timer = record { remaining_ms = l.remaining_ms };
-      signals = no_signals;
-      transmit_failures = failures_of [];
-    }
-
-abbrev pub idle : Operation
-idle =
-    record {
-      phase = Idle;
-      extended_pan_id = record { 0 = 0 };
-      security_enabled = false;
-      scan = record { first = 0; past = 0; duration = 0 };
-      scan_requested = false;
-      channel = 0;
-      polls_left = 0;
-    }
+own_part l = with_timer (record { remaining_ms = l.remaining_ms }) (with_pending l.pending_timeout_request (new_nlme l.nib l.nwk_seq))
 
 unfoldable pub begun : NodeFields → State
-begun l =
-    record {
-      control = record { nlme = own_part l; operation = idle };
-      table = table_of [];
-      candidates = record { list = list_of []; taken = 0 };
-    }
+begun l = with_node (own_part l) (new_state l.nib l.nwk_seq)
 
 -- a `node` line of zeros: what stands in the place of a node before the first
 abbrev pub no_node : NodeFields

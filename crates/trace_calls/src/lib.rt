@@ -34,7 +34,7 @@ pub enum Stage {
 pub struct Session {
     pub state: State,
     pub stage: Stage,
-    // the beacons of a scan that are still to come
+    // the beacons of a scan that are still to come. No case of `Stage` holds them with `scan`, since the beacons of the last scan stay in the session
     pub missing: u32,
     pub scan: PanDescriptorList,
 }

@@ -3,7 +3,7 @@
 
 ghost use Rattle.std.specs.Prelude.{◌≡◌, ◌<◌};
 ghost use Rattle.discovery.specs.declared.mlme.Address.TheVariants.{Short, Extended};
-ghost use Rattle.trace_input.specs.TraceInput.{nib_of, node_of, device_type_of, entry_of, entry_with, failure_of, range_from, rejoin_network_of, join_request_of, stack_profile_of, beacon_of, bits16, bits32, flag, extended_pan_id_at, pan_id_at, short, ieee, association_of, ieee_of, source_of, rejoin_response_of, timeout_response_of, leave_options_of, received, call_of};
+ghost use Rattle.trace_input.specs.TraceInput.{nib_of, node_of, device_type_of, entry_of, entry_with, failure_of, range_from, rejoin_network_of, join_request_of, stack_profile_of, beacon_of, bits8, bits16, bits32, flag, extended_pan_id_at, pan_id_at, short, ieee, capabilities, association_of, ieee_of, source_of, rejoin_response_of, timeout_response_of, leave_options_of, received, call_of};
 
 use discovery::mlme::{
     Address, MacError, PanDescriptor, StackProfile, SuperframeSpecification, ZigbeeBeacon,
@@ -59,9 +59,75 @@ pub enum Call {
     Refresh,
 }
 
-// Arguments of calls. A field is read modulo the size of its type: the fields of a line that was read fit their types.
+// Numbers of a line, each cut to its type: the fields of a line that was read fit their types. `stack_profile_of` alone cuts its parts itself.
+
+fn bits8(line: InputLine, k: usize) -> u8
+    requires { k < 20 }
+    ensures { result ≡ bits8 k line }
+{
+    (line.numbers[k] % 256) as u8
+}
+
+fn bits16(line: InputLine, k: usize) -> u16
+    requires { k < 20 }
+    ensures { result ≡ bits16 k line }
+{
+    (line.numbers[k] % 65536) as u16
+}
+
+fn bits32(line: InputLine, k: usize) -> u32
+    requires { k < 20 }
+    ensures { result ≡ bits32 k line }
+{
+    (line.numbers[k] % 4294967296) as u32
+}
+
+fn flag(line: InputLine, k: usize) -> bool
+    requires { k < 20 }
+    ensures { result ≡ flag k line }
+{
+    line.numbers[k] == 1
+}
+
+fn short(line: InputLine, k: usize) -> ShortAddress
+    requires { k < 20 }
+    ensures { result ≡ short k line }
+{
+    ShortAddress(bits16(line, k))
+}
+
+fn pan_id_at(line: InputLine, k: usize) -> PanId
+    requires { k < 20 }
+    ensures { result ≡ pan_id_at k line }
+{
+    PanId(bits16(line, k))
+}
+
+fn ieee(line: InputLine, k: usize) -> IeeeAddress
+    requires { k < 20 }
+    ensures { result ≡ ieee k line }
+{
+    IeeeAddress(line.numbers[k])
+}
+
+fn extended_pan_id_at(line: InputLine, k: usize) -> ExtendedPanId
+    requires { k < 20 }
+    ensures { result ≡ extended_pan_id_at k line }
+{
+    ExtendedPanId(line.numbers[k])
+}
+
+fn capabilities(line: InputLine, k: usize) -> CapabilityInformation
+    requires { k < 20 }
+    ensures { result ≡ capabilities k line }
+{
+    CapabilityInformation(bits8(line, k))
+}
+
+// Arguments of calls.
 
 // No `From`, here and in `rejoin_network_of`, which would stand beside the type: the number is that of a trace's line, which only traces know.
+#[tactic(auto, unfolding(crate::specs::TraceInput::device_type_of))]
 fn device_type_of(n: u8) -> DeviceType
     ensures { result ≡ device_type_of n }
 {
@@ -76,76 +142,70 @@ fn device_type_of(n: u8) -> DeviceType
 fn entry_with(line: InputLine, device_type: DeviceType) -> NwkNeighbor
     ensures { result ≡ entry_with device_type line }
 {
-    let n = line.numbers;
     NwkNeighbor {
-        extended_address: IeeeAddress(n[1]),
-        network_address: ShortAddress((n[2] % 65536) as u16),
+        extended_address: ieee(line, 1),
+        network_address: short(line, 2),
         device_type,
-        rx_on_when_idle: n[4] == 1,
-        end_device_configuration: (n[5] % 65536) as u16,
-        relationship: (n[6] % 256) as u8,
-        lqi: (n[7] % 256) as u8,
-        outgoing_cost: (n[8] % 256) as u8,
-        age: (n[9] % 256) as u8,
-        keepalive_received: n[10] == 1,
-        extended_pan_id: ExtendedPanId(n[11]),
-        logical_channel: (n[12] % 256) as u8,
-        depth: (n[13] % 256) as u8,
-        permit_joining: n[14] == 1,
-        potential_parent: (n[15] % 256) as u8,
-        router_capacity: n[16] == 1,
-        end_device_capacity: n[17] == 1,
-        update_id: (n[18] % 256) as u8,
-        pan_id: PanId((n[19] % 65536) as u16),
+        rx_on_when_idle: flag(line, 4),
+        end_device_configuration: bits16(line, 5),
+        relationship: bits8(line, 6),
+        lqi: bits8(line, 7),
+        outgoing_cost: bits8(line, 8),
+        age: bits8(line, 9),
+        keepalive_received: flag(line, 10),
+        extended_pan_id: extended_pan_id_at(line, 11),
+        logical_channel: bits8(line, 12),
+        depth: bits8(line, 13),
+        permit_joining: flag(line, 14),
+        potential_parent: bits8(line, 15),
+        router_capacity: flag(line, 16),
+        end_device_capacity: flag(line, 17),
+        update_id: bits8(line, 18),
+        pan_id: pan_id_at(line, 19),
     }
 }
 
 fn entry_of(line: InputLine) -> NwkNeighbor
     ensures { result ≡ entry_of line }
 {
-    let n = line.numbers;
-    entry_with(line, device_type_of((n[3] % 256) as u8))
+    entry_with(line, device_type_of(bits8(line, 3)))
 }
 
 fn failure_of(line: InputLine) -> TransmitFailure
     ensures { result ≡ failure_of line }
 {
-    let n = line.numbers;
     TransmitFailure {
-        address: ShortAddress((n[1] % 65536) as u16),
-        count: (n[2] % 256) as u8,
+        address: short(line, 1),
+        count: bits8(line, 2),
     }
 }
 
 fn nib_of(line: InputLine) -> Nib
     ensures { result ≡ nib_of line }
 {
-    let n = line.numbers;
     Nib {
-        network_address: ShortAddress((n[1] % 65536) as u16),
-        ieee_address: IeeeAddress(n[2]),
-        extended_panid: ExtendedPanId(n[3]),
-        panid: PanId((n[4] % 65536) as u16),
-        update_id: (n[5] % 256) as u8,
-        capability_information: CapabilityInformation((n[6] % 256) as u8),
-        stack_profile: (n[7] % 256) as u8,
-        parent_information: (n[8] % 256) as u8,
-        end_device_timeout: (n[9] % 256) as u8,
-        end_device_timeout_default: (n[10] % 256) as u8,
-        leave_request_allowed: n[11] == 1,
+        network_address: short(line, 1),
+        ieee_address: ieee(line, 2),
+        extended_panid: extended_pan_id_at(line, 3),
+        panid: pan_id_at(line, 4),
+        update_id: bits8(line, 5),
+        capability_information: capabilities(line, 6),
+        stack_profile: bits8(line, 7),
+        parent_information: bits8(line, 8),
+        end_device_timeout: bits8(line, 9),
+        end_device_timeout_default: bits8(line, 10),
+        leave_request_allowed: flag(line, 11),
     }
 }
 
 fn node_of(line: InputLine) -> NodeFields
     ensures { result ≡ node_of line }
 {
-    let nib = nib_of(line);
-    let n = line.numbers;
     NodeFields {
-        nib,
-        nwk_seq: (n[12] % 256) as u8,
-        pending_timeout_request: (n[13] % 256) as u8,
-        remaining_ms: (n[14] % 4294967296) as u32,
+        nib: nib_of(line),
+        nwk_seq: bits8(line, 12),
+        pending_timeout_request: bits8(line, 13),
+        remaining_ms: bits32(line, 14),
     }
 }
 
@@ -153,14 +213,14 @@ fn range_of(line: InputLine, k: usize) -> ScanRange
     requires { k < 18 }
     ensures { result ≡ range_from k line }
 {
-    let n = line.numbers;
     ScanRange {
-        first: (n[k] % 256) as u8,
-        past: (n[k + 1] % 256) as u8,
-        duration: (n[k + 2] % 256) as u8,
+        first: bits8(line, k),
+        past: bits8(line, k + 1),
+        duration: bits8(line, k + 2),
     }
 }
 
+#[tactic(auto, unfolding(crate::specs::TraceInput::rejoin_network_of))]
 fn rejoin_network_of(n: u64) -> RejoinNetwork
     ensures { result ≡ rejoin_network_of n }
 {
@@ -175,15 +235,12 @@ fn rejoin_network_of(n: u64) -> RejoinNetwork
 fn join_request_of(line: InputLine) -> NlmeJoinRequest
     ensures { result ≡ join_request_of line }
 {
-    let n = line.numbers;
-    let rejoin_network = rejoin_network_of(n[1]);
-    let scan = range_of(line, 5);
     NlmeJoinRequest {
-        extended_pan_id: ExtendedPanId(n[2]),
-        rejoin_network,
-        capability_information: CapabilityInformation((n[3] % 256) as u8),
-        security_enabled: n[4] == 1,
-        scan,
+        extended_pan_id: extended_pan_id_at(line, 2),
+        rejoin_network: rejoin_network_of(line.numbers[1]),
+        capability_information: capabilities(line, 3),
+        security_enabled: flag(line, 4),
+        scan: range_of(line, 5),
     }
 }
 
@@ -200,53 +257,43 @@ fn stack_profile_of(line: InputLine) -> StackProfile
 fn beacon_of(line: InputLine, coord_address: Address) -> PanDescriptor
     ensures { result ≡ beacon_of coord_address line }
 {
-    let stack_profile = stack_profile_of(line);
-    let n = line.numbers;
-    let superframe_spec = SuperframeSpecification {
-        beacon_order: (n[14] % 256) as u8,
-        superframe_order: (n[15] % 256) as u8,
-        association_permit: n[6] == 1,
-    };
-    let zigbee_beacon = ZigbeeBeacon {
-        stack_profile,
-        extended_pan_id: ExtendedPanId(n[5]),
-        update_id: (n[10] % 256) as u8,
-    };
     PanDescriptor {
-        channel: (n[1] % 256) as u8,
-        coord_pan_id: PanId((n[2] % 65536) as u16),
+        channel: bits8(line, 1),
+        coord_pan_id: pan_id_at(line, 2),
         coord_address,
-        superframe_spec,
-        link_quality: (n[11] % 256) as u8,
-        zigbee_beacon,
+        superframe_spec: SuperframeSpecification {
+            beacon_order: bits8(line, 14),
+            superframe_order: bits8(line, 15),
+            association_permit: flag(line, 6),
+        },
+        link_quality: bits8(line, 11),
+        zigbee_beacon: ZigbeeBeacon {
+            stack_profile: stack_profile_of(line),
+            extended_pan_id: extended_pan_id_at(line, 5),
+            update_id: bits8(line, 10),
+        },
     }
 }
 
 fn short_sender(line: InputLine) -> Address
     ensures { result ≡ Short (pan_id_at 2 line) (short 4 line) }
 {
-    let n = line.numbers;
-    Address::Short(
-        PanId((n[2] % 65536) as u16),
-        ShortAddress((n[4] % 65536) as u16),
-    )
+    Address::Short(pan_id_at(line, 2), short(line, 4))
 }
 
 fn extended_sender(line: InputLine) -> Address
     ensures { result ≡ Extended (pan_id_at 2 line) (ieee 4 line) }
 {
-    let n = line.numbers;
-    Address::Extended(PanId((n[2] % 65536) as u16), IeeeAddress(n[4]))
+    Address::Extended(pan_id_at(line, 2), ieee(line, 4))
 }
 
 fn association_of(line: InputLine) -> AssociationResponse
     ensures { result ≡ association_of line }
 {
-    let n = line.numbers;
     AssociationResponse {
-        status: (n[1] % 256) as u8,
-        association_address: ShortAddress((n[2] % 65536) as u16),
-        device_address: IeeeAddress(n[3]),
+        status: bits8(line, 1),
+        association_address: short(line, 2),
+        device_address: ieee(line, 3),
     }
 }
 
@@ -256,87 +303,44 @@ fn ieee_of(line: InputLine) -> Option<IeeeAddress>
     if line.dash {
         return None;
     }
-    let n = line.numbers;
-    Some(IeeeAddress(n[2]))
+    Some(ieee(line, 2))
 }
 
 fn source_of(line: InputLine) -> Source
     ensures { result ≡ source_of line }
 {
-    let n = line.numbers;
-    let ieee = ieee_of(line);
     Source {
-        address: ShortAddress((n[1] % 65536) as u16),
-        ieee,
+        address: short(line, 1),
+        ieee: ieee_of(line),
     }
 }
 
 fn rejoin_response_of(line: InputLine) -> RejoinResponse
     ensures { result ≡ rejoin_response_of line }
 {
-    let n = line.numbers;
     RejoinResponse {
-        network_address: ShortAddress((n[3] % 65536) as u16),
-        status: (n[4] % 256) as u8,
+        network_address: short(line, 3),
+        status: bits8(line, 4),
     }
 }
 
 fn timeout_response_of(line: InputLine) -> EndDeviceTimeoutResponse
     ensures { result ≡ timeout_response_of line }
 {
-    let n = line.numbers;
     EndDeviceTimeoutResponse {
-        status: (n[3] % 256) as u8,
-        parent_information: (n[4] % 256) as u8,
+        status: bits8(line, 3),
+        parent_information: bits8(line, 4),
     }
 }
 
 fn leave_options_of(line: InputLine) -> LeaveOptions
     ensures { result ≡ leave_options_of line }
 {
-    let n = line.numbers;
     LeaveOptions {
-        request: n[4] == 1,
-        rejoin: n[5] == 1,
-        remove_children: n[6] == 1,
+        request: flag(line, 4),
+        rejoin: flag(line, 5),
+        remove_children: flag(line, 6),
     }
-}
-
-fn flag_of(line: InputLine, k: usize) -> bool
-    requires { k < 20 }
-    ensures { result ≡ flag k line }
-{
-    let n = line.numbers;
-    n[k] == 1
-}
-
-fn short_of(line: InputLine, k: usize) -> ShortAddress
-    requires { k < 20 }
-    ensures { result ≡ short k line }
-{
-    let n = line.numbers;
-    ShortAddress((n[k] % 65536) as u16)
-}
-
-fn network_of(line: InputLine) -> ExtendedPanId
-    ensures { result ≡ extended_pan_id_at 1 line }
-{
-    let n = line.numbers;
-    ExtendedPanId(n[1])
-}
-
-fn number_of(line: InputLine) -> u32
-    ensures { result ≡ bits32 1 line }
-{
-    let n = line.numbers;
-    (n[1] % 4294967296) as u32
-}
-
-fn length_of(line: InputLine) -> u16
-    ensures { result ≡ bits16 1 line }
-{
-    let n = line.numbers;
-    (n[1] % 65536) as u16
 }
 
 fn received(frame: ReceivedFrame) -> Call
@@ -355,9 +359,9 @@ pub fn call_of(line: InputLine) -> Call
         InputKind::ExtendedBeacon => Call::Beacon(beacon_of(line, extended_sender(line))),
         InputKind::NoData => Call::Reception(Ok(None)),
         InputKind::Sent => Call::Transmission(true),
-        InputKind::Tick => Call::Tick(number_of(line)),
+        InputKind::Tick => Call::Tick(bits32(line, 1)),
         InputKind::Node => Call::Node(node_of(line)),
-        InputKind::Scan => Call::Scan(number_of(line)),
+        InputKind::Scan => Call::Scan(bits32(line, 1)),
         InputKind::SendFailed => Call::Transmission(false),
         InputKind::ScanFailed => Call::ScanFailed,
         InputKind::PollFailed => Call::Reception(Err(MacError)),
@@ -375,14 +379,14 @@ pub fn call_of(line: InputLine) -> Call
         )),
         InputKind::Leave => received(ReceivedFrame::LeaveCommand(
             source_of(line),
-            short_of(line, 3),
+            short(line, 3),
             leave_options_of(line),
         )),
         InputKind::Command => received(ReceivedFrame::OtherCommand(source_of(line))),
         InputKind::OtherFrame => received(ReceivedFrame::OtherFrame),
         InputKind::Discovery => Call::Discovery(range_of(line, 1)),
         InputKind::Join => Call::Join(join_request_of(line)),
-        InputKind::Send => Call::Send(short_of(line, 1), flag_of(line, 2)),
+        InputKind::Send => Call::Send(short(line, 1), flag(line, 2)),
         InputKind::Poll => Call::Poll,
         InputKind::Receive => Call::Receive,
         InputKind::Negotiate => Call::Negotiate,
@@ -390,11 +394,11 @@ pub fn call_of(line: InputLine) -> Call
         InputKind::TakeLeave => Call::TakeLeave,
         InputKind::TakeStatus => Call::TakeStatus,
         InputKind::Candidates => {
-            Call::Choose(network_of(line), flag_of(line, 2), flag_of(line, 3))
+            Call::Choose(extended_pan_id_at(line, 1), flag(line, 2), flag(line, 3))
         }
         InputKind::State => Call::PrintState,
         InputKind::Pair => Call::Failure(failure_of(line)),
-        InputKind::Page => Call::Page(length_of(line)),
+        InputKind::Page => Call::Page(bits16(line, 1)),
         InputKind::Refresh => Call::Refresh,
     }
 }

@@ -1,6 +1,6 @@
 -- The laws of `trace_lines`.
 pub mod Zips
-pub mod Places
 pub mod Texts
 pub mod Lines
+pub mod Found
 pub mod Long

@@ -1,7 +1,7 @@
 -- Laws of the lines that are written: a line has at most 420 bytes. Assumes nothing.
 use Prim.Native.Nat.{ℕ, suc, ◌+◌, ◌-◌, ◌*◌, ◌<◌, ◌≤◌, zero-le}
 use mathlib.Core.Path.{◌≡◌, sym, ap, ◌∙◌}
-use mathlib.Core.Bool.{Bool, true, false, cond}
+use mathlib.Core.Bool.{true, false}
 use mathlib.Core.List.{List, [], ◌∷◌, ◌++◌, map, map-append, append-nil, append_assoc, flat_map}
 use native.Mathlib.Omega.{arith}
 use borrow.Author.Tests.{ne_eqb}
@@ -32,13 +32,6 @@ joined_snoc [] u = append-nil u
 joined_snoc (t ∷ ts) u =
     let n : eqb (suc (length ts)) 0 ≡ false = ne_eqb (suc (length ts)) 0 (λ e. let f : ⊥ = omega arith in f) in
     rw n (ap (λ (z : List ℕ). t ++ z) (tabs-snoc ts u) ∙ sym (append_assoc t (flat_map (λ v. 9 ∷ v) ts) (9 ∷ u)))
-
-pub tab-short : (i : ℕ) → length (tab_before i) ≤ 1
-tab-short i = go (eqb i 0)
-  where
-    go : (b : Bool) → length {A = ℕ} (cond b [] (9 ∷ [])) ≤ 1
-    go true = zero-le
-    go false = omega arith
 
 -- texts of at most 20 bytes
 abbrev Short : List ℕ → Type 0
@@ -123,9 +116,6 @@ joined-long [] a = zero-le
 joined-long (t ∷ ts) a = omega (arith, length-append t (flat_map (λ u. 9 ∷ u) ts), a.0, tabs-long ts a.1)
 
 -- the first i fields of a line, and one more
-pub fields-long : (line : List Field) → length (joined (map field_text line)) ≤ 21 * length line
-fields-long line = omega (arith, joined-long (map field_text line) (texts-short line), length-map line field_text)
-
 pub fields-next : (line : List Field) (i : ℕ) (d : Field) → i < length line → joined (map field_text (take i line)) ++ (tab_before i ++ field_text (get_or line i d)) ≡ joined (map field_text (take (i + 1) line))
 fields-next line i d h =
     let ts = map field_text (take i line) in

@@ -1,21 +1,41 @@
 -- Laws of two lists side by side. Assumes nothing.
-use Prim.Native.Nat.{ℕ, zero, suc, ◌<◌, min}
+use Prim.Native.Nat.{ℕ, zero, suc, ◌+◌, ◌<◌}
 use mathlib.Core.Path.{◌≡◌, refl, sym, ap, ◌∙◌}
 use mathlib.Core.List.{List, [], ◌∷◌, zip_with}
-use native.Mathlib.Nat.{le_of_suc-le-suc, not-suc-le-zero, min-zero, zero-min, suc-min-suc}
+use native.Mathlib.Nat.{le_of_suc-le-suc, not-suc-le-zero, zero-add}
+use native.Mathlib.Omega.{arith}
 use lib.ListN.{length, get_or}
+use Rattle.std.specs.List.{zip, enumerate_from}
+use Rattle.std.proofs.lemmas.List.FromFn.{length-enumerate_from, get_or-enumerate_from}
+use Rattle.std.proofs.lemmas.Slice.Zip.{length-zip}
+use Rattle.std.proofs.lemmas.Slice.Zip.{length-zip}
 
--- two lists side by side
+-- what stands at one place of both, as a loop over them with their places has it
 module _ {A B C : Type 0} (f : A → B → C) where
-  pub zip-long : (xs : List A) (ys : List B) → length (zip_with f xs ys) ≡ min (length xs) (length ys)
+  pub zip-long : (xs : List A) (ys : List B) → length ys ≡ length xs → length (zip_with f xs ys) ≡ length xs
   unfolding zip_with
-  zip-long [] ys = sym (zero-min (length ys))
-  zip-long (x ∷ xs) [] = sym (min-zero (suc (length xs)))
-  zip-long (x ∷ xs) (y ∷ ys) = ap suc (zip-long xs ys) ∙ sym (suc-min-suc (length xs) (length ys))
+  zip-long [] ys h = refl
+  zip-long (x ∷ xs) [] h = let e : ⊥ = omega (arith, h) in absurd e
+  zip-long (x ∷ xs) (y ∷ ys) h = ap suc (zip-long xs ys (omega (arith, h)))
 
-  pub zip-at : (xs : List A) (ys : List B) (i : ℕ) (a : A) (b : B) (c : C) → i < length xs → i < length ys → get_or (zip_with f xs ys) i c ≡ f (get_or xs i a) (get_or ys i b)
+  pub zip-at : (xs : List A) (ys : List B) (i : ℕ) (p : B × A) (c : C) → i < length (zip ys xs) → get_or (zip_with f xs ys) i c ≡ f (get_or (zip ys xs) i p).1 (get_or (zip ys xs) i p).0
   unfolding zip_with
-  zip-at [] ys i a b c h k = absurd (not-suc-le-zero h)
-  zip-at (x ∷ xs) [] i a b c h k = absurd (not-suc-le-zero k)
-  zip-at (x ∷ xs) (y ∷ ys) zero a b c h k = refl
-  zip-at (x ∷ xs) (y ∷ ys) (suc i) a b c h k = zip-at xs ys i a b c (le_of_suc-le-suc h) (le_of_suc-le-suc k)
+  zip-at [] [] i p c h = absurd (not-suc-le-zero h)
+  zip-at [] (y ∷ ys) i p c h = absurd (not-suc-le-zero h)
+  zip-at (x ∷ xs) [] i p c h = absurd (not-suc-le-zero h)
+  zip-at (x ∷ xs) (y ∷ ys) zero p c h = refl
+  zip-at (x ∷ xs) (y ∷ ys) (suc i) p c h = zip-at xs ys i p c (le_of_suc-le-suc h)
+
+  pub zip-turn : (xs : List A) (ys : List B) (n : ℕ) (x : ℕ × (B × A)) (c : C) → n < length (enumerate_from 0 (zip ys xs)) → x ≡ get_or (enumerate_from 0 (zip ys xs)) n x → (x.0 ≡ n) × (get_or (zip_with f xs ys) n c ≡ f x.1.1 x.1.0)
+  zip-turn xs ys n x c h e =
+      let l : n < length (zip ys xs) = omega (arith, length-enumerate_from 0 (zip ys xs)) in
+      let p : x ≡ (0 + n, get_or (zip ys xs) n x.1) = e ∙ get_or-enumerate_from 0 (zip ys xs) n x l in
+      (ap (λ (q : ℕ × (B × A)). q.0) p ∙ zero-add n, zip-at xs ys n x.1 c l ∙ sym (ap (λ (q : ℕ × (B × A)). f q.1.1 q.1.0) p))
+
+-- how many
+module _ {A B : Type 0} (xs : List A) (ys : List B) where
+  pub zip-few : (n : ℕ) → n < length (enumerate_from 0 (zip ys xs)) → n < length xs
+  zip-few n h = omega (arith, length-enumerate_from 0 (zip ys xs), length-zip ys xs)
+
+  pub zip-all : length ys ≡ length xs → length (enumerate_from 0 (zip ys xs)) ≡ length xs
+  zip-all h = omega (arith, length-enumerate_from 0 (zip ys xs), length-zip ys xs)

@@ -140,7 +140,7 @@ impl InputKind {
         }
     }
 
-    // A letter for each further field: what stands in it.
+    // A letter for each further field: what stands in it. No enum of forms: by letters a kind is one line, by variants as many lines as it has fields, up to 19.
     fn letters(self) -> &'static [u8]
         ensures value { result.now ≡ letters_of self }
         ensures few { length result.now ≤ 19 }
@@ -225,14 +225,12 @@ fn read_as(kind: InputKind, line: &[u8]) -> Option<InputLine>
     if text::part_count(line, b'\t') != letters.len() + 1 {
         return None;
     }
+    let further = line.split(|b| *b == b'\t').skip(1);
     let mut numbers = [0u64; 20];
     let mut dash = false;
-    let mut at = text::field(line, 0).len() + 1;
-    for (i, letter) in letters.iter().enumerate() {
-        let f = text::part(&line[at..], b'\t', 0);
+    for (i, (f, letter)) in further.zip(letters).enumerate() {
         numbers[i + 1] = read_number(*letter, f)?;
-        dash = dash || is_dash(*letter, f);
-        at += f.len() + 1;
+        dash |= is_dash(*letter, f);
     }
     Some(InputLine {
         kind,
@@ -242,6 +240,7 @@ fn read_as(kind: InputKind, line: &[u8]) -> Option<InputLine>
 }
 
 // The line by a kind, or none where it doesn't fit.
+#[tactic(auto, unfolding(crate::specs::TraceLines::fits))]
 fn read_kind(kind: InputKind, line: &[u8]) -> Option<InputLine>
     ensures { result ≡ read_kind kind (fields line.now) }
 {
@@ -255,13 +254,7 @@ fn read_kind(kind: InputKind, line: &[u8]) -> Option<InputLine>
 pub fn read_line(line: &[u8]) -> Option<InputLine>
     ensures { result ≡ line_of line.now }
 {
-    for kind in KINDS {
-        let read = read_kind(kind, line);
-        if read.is_some() {
-            return read;
-        }
-    }
-    None
+    KINDS.iter().find_map(|kind| read_kind(*kind, line))
 }
 
 // The words that are written.
@@ -442,6 +435,7 @@ fn write_fields(out: &mut Writer, line: &[Field])
 }
 
 // Writes a line behind what is written, as far as it fits. A line has at most 20 fields, and so at most 420 bytes; no more are written.
+#[tactic(auto, unfolding(crate::specs::TraceLines::line_text), using(text::proofs::Written::in_turn))]
 pub fn put_line(out: &mut Writer, line: &[Field])
     ensures { out.new ≡ with_text out.old (line_text line.now) }
 {

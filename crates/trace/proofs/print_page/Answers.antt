@@ -1,5 +1,5 @@
 -- `print_page` meets its contract. Assumes nothing.
-use borrow.Enum.Refused.{opened}
+use Rattle.std.proofs.Common.{rules}
 use mathlib.Core.Path.{ap, ◌∙◌}
 use Rattle.nib.specs.Neighbors.{entries_of}
 use Rattle.text.specs.Writer.{with_text}
@@ -23,4 +23,4 @@ returns-in-PageWritten c =
 pub returns-in_default : goal.returns-in_default
 returns-in_default c =
     let e = c.lend_page-step.ensures in
-    c.print_step.ensures ∙ ap (with_text c.args.out.now) (page_alone c.args.bytes c.args.state c.lend_page-step.result e.step (opened c.in_default.in_default-own.keys2))
+    c.print_step.ensures ∙ ap (with_text c.args.out.now) (page_alone c.args.bytes c.args.state c.lend_page-step.result e.step (search rules))
