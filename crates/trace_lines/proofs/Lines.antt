@@ -11,7 +11,8 @@ use lib.ListN.{length, take, drop, get_or, set, length-drop, length-map, drop_of
 use lib.Seq.{drop-cons, get_or-drop, take_all, length-take-le}
 use Rattle.lists.specs.Lists.{every, some, over}
 use Rattle.lists.proofs.Conditions.{pick_true}
-use Rattle.lists.proofs.Lists.{take_next, over-snoc}
+use Rattle.std.proofs.lemmas.List.{take_more}
+use Rattle.lists.proofs.Lists.{over-snoc}
 use Rattle.std.specs.Prelude.{Option, Some, None, is_some}
 use Rattle.text.specs.Text.{same_text}
 use Rattle.trace_lines.specs.declared.InputKind.{InputKind}
@@ -33,7 +34,7 @@ module _ (rs : List (Option ℕ)) (i : ℕ) (h : i < length rs) where
       let x : List ℕ = 0 ∷ map or_zero (take i rs) in
       let m : length x ≡ i + 1 = ap suc (length-map (take i rs) or_zero ∙ length-take-le i rs (omega arith)) ∙ sym (add-one i) in
       let s : x ++ (n ∷ []) ≡ 0 ∷ map or_zero (take (i + 1) rs) =
-      ap (λ (z : List ℕ). 0 ∷ z) (sym (ap (map or_zero) (take_next rs i None h) ∙ map-append or_zero (take i rs) (get_or rs i None ∷ []) ∙ ap (λ (r : Option ℕ). map or_zero (take i rs) ++ (or_zero r ∷ [])) e)) in
+      ap (λ (z : List ℕ). 0 ∷ z) (sym (ap (map or_zero) (take_more rs i None h) ∙ map-append or_zero (take i rs) (get_or rs i None ∷ []) ∙ ap (λ (r : Option ℕ). map or_zero (take i rs) ++ (or_zero r ∷ [])) e)) in
       ap (λ (z : List ℕ). set z (i + 1) n) p ∙ ap (λ (j : ℕ). set (over zeros x) j n) (sym m) ∙ over-snoc zeros x n (omega arith) ∙ ap (over zeros) s
 
 pub dash-on : (ds : List Bool) (i : ℕ) → i < length ds → (d e : Bool) → e ≡ cond d true (get_or ds i false) → cond d true (some (λ b. b) (drop i ds)) ≡ cond e true (some (λ b. b) (drop (i + 1) ds))
