@@ -1,6 +1,6 @@
 -- Laws of conditions. Assumes nothing.
 use mathlib.Core.Path.{◌≡◌, refl, sym}
-use mathlib.Core.Bool.{Bool, true, false, cond, ◌||◌, false≢true}
+use mathlib.Core.Bool.{Bool, true, false, cond, false≢true}
 
 -- a condition whose test is known
 pub pick_true : {A : Type 0} (b : Bool) (x y : A) → b ≡ true → x ≡ cond b x y
@@ -25,8 +25,3 @@ both-cases R true true e f g = f refl
 both-cases R true false e f g = absurd (false≢true (sym e))
 both-cases R false true e f g = absurd (false≢true e)
 both-cases R false false e f g = g refl
-
--- of two tests neither holds
-pub neither : (a b : Bool) → (a || b) ≡ false → (a ≡ false) × (b ≡ false)
-neither true b h = absurd (false≢true (sym h))
-neither false b h = (refl, h)
