@@ -2,15 +2,6 @@
 use mathlib.Core.Path.{◌≡◌, refl, sym}
 use mathlib.Core.Bool.{Bool, true, false, cond, false≢true}
 
--- a condition whose test is known
-pub pick_true : {A : Type 0} (b : Bool) (x y : A) → b ≡ true → x ≡ cond b x y
-pick_true true x y h = refl
-pick_true false x y h = absurd (false≢true h)
-
-pub pick-false : {A : Type 0} (b : Bool) (x y : A) → b ≡ false → y ≡ cond b x y
-pick-false true x y h = absurd (false≢true (sym h))
-pick-false false x y h = refl
-
 -- the two cases of a test; a fact of a condition; and a relation between two conditions with equal tests
 pub split : (b : Bool) {P : Type 0} → (b ≡ true → P) → (b ≡ false → P) → P
 split true f g = f refl

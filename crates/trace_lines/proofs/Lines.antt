@@ -10,7 +10,7 @@ use lib.Dec.{eqb}
 use lib.ListN.{length, take, drop, get_or, set, length-drop, length-map, drop_of_length-le}
 use lib.Seq.{drop-cons, get_or-drop, take_all, length-take-le}
 use Rattle.lists.specs.Lists.{every, some, over}
-use Rattle.lists.proofs.Conditions.{pick_true}
+use Rattle.std.proofs.lemmas.Bool.{cond-true}
 use Rattle.std.proofs.lemmas.List.{take_more}
 use Rattle.lists.proofs.Lists.{over-snoc}
 use Rattle.std.specs.Prelude.{Option, Some, None, is_some}
@@ -97,7 +97,7 @@ module _ (k : InputKind) (fs : List (List ℕ)) where
         let v : take i readings ≡ readings = take_all i readings (omega (arith, reading-count)) in
         let w : ns ≡ over zeros (0 ∷ map or_zero readings) = s ∙ ap (λ (z : List (Option ℕ)). over zeros (0 ∷ map or_zero z)) v in
         (λ j. Some (record { kind = k; dash = sym u j; numbers = w j }))
-        ∙ pick_true (eqb (length (drop 1 fs)) (length ls) && every is_some readings) _ None (rw (t, eq-eqb (length (drop 1 fs)) (length ls) further))
+        ∙ sym (cond-true (eqb (length (drop 1 fs)) (length ls) && every is_some readings) _ None (rw (t, eq-eqb (length (drop 1 fs)) (length ls) further)))
       where
         self : (x : Bool) → cond x true false ≡ x
         self true = refl

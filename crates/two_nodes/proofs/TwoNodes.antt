@@ -8,8 +8,8 @@ use mathlib.Core.Bool.{true, false}
 use mathlib.Core.List.{List, ◌∷◌}
 use borrow.Author.Tests.{ltb-false}
 use lib.Dec.{ltb}
-use Rattle.std.proofs.lemmas.Bool.{or_parts}
-use Rattle.lists.proofs.Conditions.{split, pick_true}
+use Rattle.std.proofs.lemmas.Bool.{or_parts, cond-true}
+use Rattle.lists.proofs.Conditions.{split}
 use Rattle.operation.specs.declared.Phase.{Phase}
 use Rattle.node.specs.Refusals.{refuse, bad}
 use Rattle.node.specs.Calls.{Call, answer}
@@ -27,7 +27,7 @@ use Rattle.operation.specs.declared.Refusal.TheVariants.{BadState}
 module _ (s : State) (b : bad s ≡ true) where
   refused : (c : Call) → answer s c ≡ refuse BadState s
   unfolding answer
-  refused c = sym (pick_true (bad s) _ _ b)
+  refused c = cond-true (bad s) _ _ b
 
   stays : (c : Call) → (answer s c).state ≡ s
   unfolding refuse

@@ -1,6 +1,6 @@
 -- `State::transmission_over` meets its contract. Assumes nothing.
 use mathlib.Core.Path.{sym, ap, ◌∙◌}
-use Rattle.lists.proofs.Conditions.{pick_true, pick-false}
+use Rattle.std.proofs.lemmas.Bool.{cond-true, cond-false}
 use Rattle.operation.specs.declared.Phase.{Phase}
 use Rattle.operation.specs.Operation.{transmission_for}
 use Rattle.node.specs.Refusals.{bad, outcome}
@@ -10,12 +10,12 @@ use Rattle.node.proofs.State.transmission_over.Goals as goal
 
 pub returns-then-is_bad : goal.returns-then-is_bad
 unfolding answer
-returns-then-is_bad c = c.refuse.ensures ∙ pick_true (bad c.args.self) _ _ (sym c.is_bad.ensures ∙ c.if-is_bad.true)
+returns-then-is_bad c = c.refuse.ensures ∙ sym (cond-true (bad c.args.self) _ _ (sym c.is_bad.ensures ∙ c.if-is_bad.true))
 
 pub returns-in_default : goal.returns-in_default
 unfolding answer
-returns-in_default c = c.refuse-in_default.ensures ∙ no-transmission c.args.self.control.operation.phase _ _ c.in_default.not-Transmission ∙ pick-false (bad c.args.self) _ _ (sym c.is_bad.ensures ∙ c.if-is_bad.false)
+returns-in_default c = c.refuse-in_default.ensures ∙ no-transmission c.args.self.control.operation.phase _ _ c.in_default.not-Transmission ∙ sym (cond-false (bad c.args.self) _ _ (sym c.is_bad.ensures ∙ c.if-is_bad.false))
 
 pub returns : goal.returns
 unfolding answer outcome
-returns c = c.decide_transmission.ensures ∙ (sym (ap (λ (p : Phase). outcome (transmission_for p) (transmission_over c.args.sent) c.args.self) c.in-Transmission.is) ∙ pick-false (bad c.args.self) _ _ (sym c.is_bad.ensures ∙ c.if-is_bad.false))
+returns c = c.decide_transmission.ensures ∙ sym (cond-false (bad c.args.self) _ _ (sym c.is_bad.ensures ∙ c.if-is_bad.false) ∙ ap (λ (p : Phase). outcome (transmission_for p) (transmission_over c.args.sent) c.args.self) c.in-Transmission.is)
