@@ -1,7 +1,8 @@
 -- Laws of the candidate list: which indexes are in it, how many, that none is twice, and their order. Assumes nothing.
-use Rattle.std.proofs.Common.{Option, Some, None, ◌≡◌, ℕ, ◌<◌, ◌≤◌, Bool, true, false, ◌&&◌, ◌||◌, eqb, ◌⊎◌, ◌↔◌, List, length, get_or, sym, refl, ap, inl, inr, ⊎_elim, arith, eq-eqb, ne_eqb, eqb-true, le-leb, leb-true}
+use Rattle.std.proofs.Common.{Option, Some, None, ◌≡◌, ℕ, ◌<◌, ◌≤◌, Bool, true, false, eqb, ◌⊎◌, ◌↔◌, List, length, get_or, sym, refl, ap, inl, inr, ⊎_elim, arith, eq-eqb, ne_eqb, eqb-true, le-leb, leb-true}
 use mathlib.Core.Bool.{false≢true, or-true}
 use borrow.Author.Tests.{eqb-false}
+use Rattle.std.proofs.lemmas.Bool.{and_parts, or_cases}
 use Rattle.lists.specs.Lists.{indexes_from, All}
 use Rattle.lists.proofs.Order.{In, Sorted, ByKey, All-of, Sorted-map, sort_sorted}
 use Rattle.lists.proofs.Indexes.{indexes-ascend}
@@ -13,14 +14,6 @@ use Rattle.candidates.specs.Candidates.{matches, capacity, low_cost, current, is
 use Rattle.candidates.proofs.Chosen.{in-chosen, chosen-few}
 
 -- `eligible` as facts
-both : (a b : Bool) → a && b ≡ true → (a ≡ true) × (b ≡ true)
-both true b h = (refl, h)
-both false b h = absurd (false≢true h)
-
-either : (a b : Bool) → a || b ≡ true → (a ≡ true) ⊎ (b ≡ true)
-either true b h = inl refl
-either false b h = inr h
-
 is-id : (id : ℕ) (m : Option ℕ) → is_id id m ≡ true → m ≡ Some id
 is-id id None h = absurd (false≢true h)
 is-id id (Some best) h = ap Some (sym (eqb-true id best h))
@@ -37,13 +30,13 @@ module _ (router permit : Bool) (n : ℕ) (es : List NwkNeighbor) (e : NwkNeighb
   facts : eligible router permit n es e ≡ true → Candidate router permit n es e
   unfolding eligible
   facts h =
-      let u = both _ (current permit es e) h in
-      let p = both _ (potential e) u.0 in
-      let l = both _ (low_cost e) p.0 in
-      let c = both _ (capacity router e) l.0 in
-      let j = both (matches n e) (permits permit e) c.0 in
+      let u = and_parts _ (current permit es e) h in
+      let p = and_parts _ (potential e) u.0 in
+      let l = and_parts _ (low_cost e) p.0 in
+      let c = and_parts _ (capacity router e) l.0 in
+      let j = and_parts (matches n e) (permits permit e) c.0 in
       record {
-        network = ⊎_elim (λ q. inl (eqb-true n 0 q)) (λ q. inr (eqb-true e.extended_pan_id.0 n q)) (either (eqb n 0) (of_network n e) j.0);
+        network = ⊎_elim (λ q. inl (eqb-true n 0 q)) (λ q. inr (eqb-true e.extended_pan_id.0 n q)) (or_cases (eqb n 0) (of_network n e) j.0);
         permitted = asked permit e j.1;
         room = c.1;
         cost = leb-true (link_cost e.lqi) 3 l.1;

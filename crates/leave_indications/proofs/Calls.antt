@@ -1,11 +1,12 @@
 -- What every call does to the slot of leave indications, and to the announcement of a leave that is awaited. Assumes nothing.
 use Rattle.std.specs.Prelude.{Result, Ok, Err, Option, Some, None}
 use Prim.Native.Nat.{ℕ}
-use mathlib.Core.Path.{◌≡◌, refl, sym, ap, subst⁻¹, ◌∙◌}
+use mathlib.Core.Path.{◌≡◌, refl, ap, subst⁻¹, ◌∙◌}
 use mathlib.Core.Bool.{Bool, true, false, cond, not, ◌&&◌}
 use mathlib.Core.Logic.{inl, inr}
 use lib.Dec.{eqb, ltb}
-use Rattle.lists.proofs.Conditions.{pick_true, pick-false, by_cases}
+use Rattle.std.proofs.lemmas.Bool.{cond-true, cond-false}
+use Rattle.lists.proofs.Conditions.{by_cases}
 use Rattle.nib.specs.declared.ShortAddress.{ShortAddress}
 use Rattle.discovery.specs.Mlme.{descriptors_of}
 use Rattle.discovery.specs.Discovery.{short_addressed}
@@ -126,7 +127,7 @@ module _ (u : Purpose) (s : State) (f : Source) (d : ShortAddress) (o : LeaveOpt
 
   left_is : o.request ≡ false → whole ≡ left
   unfolding leave_handled
-  left_is e = sym (pick-false o.request asked left e)
+  left_is e = cond-false o.request asked left e
 
   device-slot : (b : Bool) (x y : Nlme) {device : LeavingDevice} → slot x ≡ indicated LeavingDevice.ThisDevice o.rejoin → slot y ≡ indicated device o.rejoin
       → slot (cond b x y) ≡ indicated (cond b LeavingDevice.ThisDevice device) o.rejoin
@@ -151,7 +152,7 @@ module _ (u : Purpose) (s : State) (f : Source) (d : ShortAddress) (o : LeaveOpt
 
   asked_is : o.request ≡ true → whole ≡ asked
   unfolding leave_handled
-  asked_is e = sym (pick_true o.request asked left e)
+  asked_is e = cond-true o.request asked left e
 
   pub request-slot : o.request ≡ true → indication handling.state ≡ indication s
   unfolding handled leave_requested
@@ -160,12 +161,12 @@ module _ (u : Purpose) (s : State) (f : Source) (d : ShortAddress) (o : LeaveOpt
 
   pub accepted-phase : o.request ≡ true → accepted ≡ true → phase handling.state ≡ announcing u o.rejoin
   unfolding handled leave_requested after finish
-  accepted-phase e t = ap (λ (h : Handled). phase (handled_on u h here).state) (asked_is e ∙ sym (pick_true accepted announced_then declined t))
+  accepted-phase e t = ap (λ (h : Handled). phase (handled_on u h here).state) (asked_is e ∙ cond-true accepted announced_then declined t)
 
   declined-phase : o.request ≡ true → accepted ≡ false → NotLeaving (phase handling.state)
   unfolding handled leave_requested
   declined-phase e t =
-      subst⁻¹ (λ (h : Handled). NotLeaving (phase (handled_on u h here).state)) (asked_is e ∙ sym (pick-false accepted announced_then declined t)) (over-phase u _ _)
+      subst⁻¹ (λ (h : Handled). NotLeaving (phase (handled_on u h here).state)) (asked_is e ∙ cond-false accepted announced_then declined t) (over-phase u _ _)
 
 -- EVERY CALL
 

@@ -4,7 +4,8 @@ use Prim.Native.Nat.{ℕ}
 use mathlib.Core.Path.{◌≡◌, refl, sym, ap, subst, subst⁻¹, ◌∙◌}
 use mathlib.Core.Bool.{Bool, true, false, cond, false≢true}
 use mathlib.Core.Logic.{◌⊎◌, ⊎_elim, ◌↔◌, inl, inr}
-use Rattle.lists.proofs.Conditions.{pick-false, by_cases}
+use Rattle.std.proofs.lemmas.Bool.{cond-false}
+use Rattle.lists.proofs.Conditions.{by_cases}
 use Rattle.nib.specs.declared.ShortAddress.{ShortAddress}
 use Rattle.management.specs.declared.LeavingDevice.{LeavingDevice}
 use Rattle.management.specs.declared.frame.LeaveOptions.{LeaveOptions}
@@ -68,7 +69,7 @@ is_this (LeavingDevice.NeighborByShort a) = false
 -- a state that 5 lets pass
 answer-good : (s : State) (c : Call) → (Bad s → ⊥) → answer s c ≡ made s c
 unfolding answer
-answer-good s c good = sym (pick-false (bad s) (refuse BadState s) (made s c) (told-false (bad-told s) good))
+answer-good s c good = cond-false (bad s) (refuse BadState s) (made s c) (told-false (bad-told s) good)
 
 -- A LEAVE COMMAND THAT IS BROUGHT
 
@@ -186,7 +187,7 @@ module _ (s : State) (u : Purpose) (rejoin : Bool) (e : phase s ≡ announcing u
   refused-phase k = e
 
   started-phase : (a : Answer) → phase (start a s).state ≡ announcing u rejoin
-  started-phase a = ap (λ (x : Answer). phase x.state) (sym (pick-false (is_idle (phase s)) a (refuse OperationUnderWay s) (ap is_idle e))) ∙ refused-phase OperationUnderWay
+  started-phase a = ap (λ (x : Answer). phase x.state) (cond-false (is_idle (phase s)) a (refuse OperationUnderWay s) (ap is_idle e)) ∙ refused-phase OperationUnderWay
 
   -- an outcome of another kind is not awaited
   other-phase : {A : Type 0} (kind : Phase → Option A) (g : A → State → Answer) → kind (announcing u rejoin) ≡ None → phase (outcome (kind (phase s)) g s).state ≡ announcing u rejoin

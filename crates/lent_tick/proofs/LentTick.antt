@@ -4,7 +4,7 @@ use mathlib.Core.Path.{◌≡◌, refl, sym, ap, ◌∙◌}
 use mathlib.Core.Bool.{Bool, true, false, cond}
 use native.Mathlib.Omega.{arith}
 use denote.Enum.Declared.{tag_of}
-use Rattle.lists.proofs.Conditions.{pick_true, pick-false}
+use Rattle.std.proofs.lemmas.Bool.{cond-true, cond-false}
 use Rattle.supervision.specs.declared.parent_timer.ParentTimer.{ParentTimer}
 use Rattle.operation.specs.declared.Step.TheVariants.{Refused}
 use Rattle.operation.specs.contracts.Step.{the_type}
@@ -37,13 +37,13 @@ module _ (t : ParentTimer) (ms : ℕ) (s : State) (a : Answer) (e : a ≡ answer
   -- the refusal of the state with the lent record is, with the state as handed in, the one of that state
   refused-alike : bad s ≡ true → with_state s a ≡ refuse BadState s
   unfolding answer bad refuse
-  refused-alike q = ap (with_state s) (e ∙ sym (pick_true (bad s) (refuse BadState (with_timer t s)) _ q))
+  refused-alike q = ap (with_state s) (e ∙ cond-true (bad s) (refuse BadState (with_timer t s)) _ q)
 
   pub if-refused : (n : Refusal) → a.step ≡ Refused n → record { timer = t; answer = with_state s a } ≡ lent_tick t ms s
   unfolding lent_tick
   if-refused n h =
       let q = go (bad s) (sym tag ∙ ap (tag_of the_type) h) in
-      ap (λ (x : Answer). record { timer = t; answer = x }) (refused-alike q) ∙ pick_true (bad s) _ _ q
+      ap (λ (x : Answer). record { timer = t; answer = x }) (refused-alike q) ∙ sym (cond-true (bad s) _ _ q)
     where
       go : (b : Bool) → cond {A = ℕ} b 0 9 ≡ 0 → b ≡ true
       go true q = refl
@@ -51,7 +51,7 @@ module _ (t : ParentTimer) (ms : ℕ) (s : State) (a : Answer) (e : a ≡ answer
 
   pub if-not-refused : ((n : Refusal) → a.step ≡ Refused n → ⊥) → with_record a ≡ lent_tick t ms s
   unfolding lent_tick refuse
-  if-not-refused h = ap with_record e ∙ pick-false (bad s) _ _ (go (bad s) refl)
+  if-not-refused h = ap with_record e ∙ sym (cond-false (bad s) _ _ (go (bad s) refl))
     where
       go : (b : Bool) → bad s ≡ b → b ≡ false
       go true q = absurd (h BadState (ap (λ (x : Answer). x.step) (refused-alike q)))

@@ -7,7 +7,8 @@ use native.Mathlib.Omega.{arith}
 use lib.ListN.{length, take, get_or, set, length-map}
 use lib.Seq.{length-take-le}
 use Rattle.lists.specs.Lists.{over, select}
-use Rattle.lists.proofs.Lists.{take_next, over-snoc, select-append}
+use Rattle.std.proofs.lemmas.List.{take_more}
+use Rattle.lists.proofs.Lists.{over-snoc, select-append}
 
 module _ {A B : Type 0} (f : A → List B) where
   pub flat_map-append : (l k : List A) → flat_map f (l ++ k) ≡ flat_map f l ++ flat_map f k
@@ -18,7 +19,7 @@ module _ {A B : Type 0} (f : A → List B) where
   -- one element more
   pub flat_map-next : (l : List A) (i : ℕ) (d : A) → i < length l → flat_map f (take (i + 1) l) ≡ flat_map f (take i l) ++ f (get_or l i d)
   unfolding flat_map
-  flat_map-next l i d h = rw (take_next l i d h, flat_map-append (take i l) (get_or l i d ∷ []), append-nil)
+  flat_map-next l i d h = rw (take_more l i d h, flat_map-append (take i l) (get_or l i d ∷ []), append-nil)
 
   -- where a test on what is given is a test on the element, it may be made before or after
   pub select-flat_map : (p : A → Bool) (q : B → Bool) → ((x : A) → select q (f x) ≡ cond (p x) (f x) []) → (l : List A) → select q (flat_map f l) ≡ flat_map f (select p l)
@@ -38,4 +39,4 @@ module _ {A B : Type 0} (f : A → B) where
       let n : length m ≡ i = length-map (take i l) f ∙ length-take-le i l (omega arith) in
       ap (λ (j : ℕ). set (over base m) j (f (get_or l i d))) (sym n)
       ∙ over-snoc base m (f (get_or l i d)) (omega arith)
-      ∙ ap (over base) (sym (ap (map f) (take_next l i d h) ∙ map-append f (take i l) (get_or l i d ∷ [])))
+      ∙ ap (over base) (sym (ap (map f) (take_more l i d h) ∙ map-append f (take i l) (get_or l i d ∷ [])))

@@ -1,15 +1,6 @@
 -- Laws of conditions. Assumes nothing.
 use mathlib.Core.Path.{◌≡◌, refl, sym}
-use mathlib.Core.Bool.{Bool, true, false, cond, ◌||◌, false≢true}
-
--- a condition whose test is known
-pub pick_true : {A : Type 0} (b : Bool) (x y : A) → b ≡ true → x ≡ cond b x y
-pick_true true x y h = refl
-pick_true false x y h = absurd (false≢true h)
-
-pub pick-false : {A : Type 0} (b : Bool) (x y : A) → b ≡ false → y ≡ cond b x y
-pick-false true x y h = absurd (false≢true (sym h))
-pick-false false x y h = refl
+use mathlib.Core.Bool.{Bool, true, false, cond, false≢true}
 
 -- the two cases of a test; a fact of a condition; and a relation between two conditions with equal tests
 pub split : (b : Bool) {P : Type 0} → (b ≡ true → P) → (b ≡ false → P) → P
@@ -25,8 +16,3 @@ both-cases R true true e f g = f refl
 both-cases R true false e f g = absurd (false≢true (sym e))
 both-cases R false true e f g = absurd (false≢true e)
 both-cases R false false e f g = g refl
-
--- of two tests neither holds
-pub neither : (a b : Bool) → (a || b) ≡ false → (a ≡ false) × (b ≡ false)
-neither true b h = absurd (false≢true (sym h))
-neither false b h = (refl, h)

@@ -1,15 +1,13 @@
 -- Laws of the first element that passes a test. Assumes nothing.
 use Prim.Native.Nat.compare
-use Prim.Native.Nat.{ℕ, suc, ◌+◌, ◌<◌, ◌≤◌, zero-le, suc-le-suc}
+use Prim.Native.Nat.{ℕ, suc, ◌+◌, ◌≤◌, zero-le, suc-le-suc}
 use mathlib.Core.Path.{◌≡◌, refl, sym, ap}
 use mathlib.Core.Bool.{Bool, true, false, cond, ◌||◌}
 use mathlib.Core.List.{List, [], ◌∷◌}
-use native.Mathlib.Numerals.{add-one}
 use native.Mathlib.Omega.{arith}
 use lib.Dec.{ltb}
 use borrow.Author.Tests.{lt-ltb, ltb-false}
-use lib.ListN.{length, drop, get_or}
-use lib.Seq.{drop-cons}
+use lib.ListN.{length, get_or}
 use Rattle.std.specs.List.{find, list_any, position, position_or_len}
 use Rattle.std.specs.Prelude.{Some, None}
 use Rattle.std.specs.Option.{unwrap_or}
@@ -18,13 +16,6 @@ use Rattle.lists.proofs.Conditions.{split}
 use Rattle.lists.specs.Lists.{first_index, some, change_at, change_first}
 
 module _ {A : Type 0} (p : A → Bool) where
-  -- the first index, from what is left of the list at i
-  pub first-here : (l : List A) (i : ℕ) (d : A) → i < length l → p (get_or l i d) ≡ true → first_index p (drop i l) ≡ 0
-  first-here l i d h t = rw (drop-cons l i d h, t)
-
-  pub first_on : (l : List A) (i : ℕ) (d : A) → i < length l → p (get_or l i d) ≡ false → first_index p (drop i l) ≡ suc (first_index p (drop (i + 1) l))
-  first_on l i d h t = rw (add-one, drop-cons l i d h, t)
-
   pub first-le : (l : List A) → first_index p l ≤ length l
   first-le [] = zero-le
   first-le (x ∷ xs) = go (p x) (first-le xs)

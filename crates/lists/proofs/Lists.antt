@@ -6,7 +6,7 @@ use mathlib.Core.List.{List, [], ◌∷◌, ◌++◌, map, append_assoc, foldl}
 use native.Mathlib.Numerals.{add-one}
 use native.Mathlib.Omega.{arith}
 use lib.ListN.{length, take, drop, get_or, set, length-map, length-append, length-take, length-drop, drop_of_length-le}
-use lib.Seq.{take-suc, take_all, drop-cons, take_at, drop_at, set_at, append_snoc, take-append-le, drop-append-le}
+use lib.Seq.{take_all, drop-cons, take_at, drop_at, set_at, append_snoc, take-append-le, drop-append-le}
 use lib.Dec.{ltb}
 use borrow.Author.Tests.{lt-ltb, le-ltb}
 use native.Mathlib.Nat.{le_of_suc-le-suc, not-suc-le-zero}
@@ -14,10 +14,6 @@ use Rattle.lists.specs.Lists.{select, insert_by, over, All}
 use Rattle.lists.specs.Private.{place_by, insert_at}
 
 module _ {A : Type 0} where
-  -- one element more, at the code's i + 1
-  pub take_next : (l : List A) (i : ℕ) (d : A) → i < length l → take (i + 1) l ≡ take i l ++ (get_or l i d ∷ [])
-  take_next l i d h = rw (add-one, take-suc l i d)
-
   pub foldl-snoc : {B : Type 0} (f : B → A → B) (b : B) (l : List A) (x : A) → foldl f b (l ++ (x ∷ [])) ≡ f (foldl f b l) x
   foldl-snoc f b [] x = refl
   foldl-snoc f b (y ∷ ys) x = foldl-snoc f (f b y) ys x
@@ -45,12 +41,6 @@ module _ {A : Type 0} where
   All-get_d P [] i d a h = absurd (not-suc-le-zero h)
   All-get_d P (x ∷ xs) zero d a h = a.0
   All-get_d P (x ∷ xs) (suc i) d a h = All-get_d P xs i d a.1 (le_of_suc-le-suc h)
-
-  -- within a list the value for what is past it plays no part
-  pub get_d_any : (l : List A) (i : ℕ) (d e : A) → i < length l → get_or l i d ≡ get_or l i e
-  get_d_any [] i d e h = absurd (not-suc-le-zero h)
-  get_d_any (x ∷ xs) zero d e h = refl
-  get_d_any (x ∷ xs) (suc i) d e h = get_d_any xs i d e (le_of_suc-le-suc h)
 
   -- the place of a key, from what is left of the list
   pub place_here : (k : A → ℕ) (n : ℕ) (l : List A) (i : ℕ) (d : A) → i < length l → n < k (get_or l i d) → place_by k n (drop i l) ≡ 0

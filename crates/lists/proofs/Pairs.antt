@@ -60,10 +60,6 @@ module _ {A : Type 0} where
   remove-le zero (x ∷ xs) = omega arith
   remove-le (suc k) (x ∷ xs) = suc-le-suc (remove-le k xs)
 
-  pub remove-head : (l : List A) → remove_at 0 l ≡ drop 1 l
-  remove-head [] = refl
-  remove-head (x ∷ xs) = refl
-
   -- a write within the front of a base
   pub over-set : (base l : List A) (k : ℕ) (x : A) → k < length l → set (over base l) k x ≡ over base (set l k x)
   over-set base l k x h = set-append_left l (drop (length l) base) k x h ∙ ap (λ (n : ℕ). set l k x ++ drop n base) (sym (length-set l k x))

@@ -126,13 +126,8 @@ rank-none p none [] i = refl
 rank-none p none (x ∷ xs) zero = refl
 rank-none p none (x ∷ xs) (suc i) = rw (none x) (rank-none p none xs i)
 
--- what a function of each element does to a read, a selection, a change, a fold and to indexes
+-- what a function of each element does to a selection, a change and to indexes
 module _ {A B : Type 0} (f : A → B) where
-  pub get_d_map : (l : List A) (i : ℕ) (d : A) (d' : B) → i < length l → get_or (map f l) i d' ≡ f (get_or l i d)
-  get_d_map [] i d d' h = absurd (not-suc-le-zero h)
-  get_d_map (x ∷ xs) zero d d' h = refl
-  get_d_map (x ∷ xs) (suc i) d d' h = get_d_map xs i d d' (le_of_suc-le-suc h)
-
   pub first-map : (p : A → Bool) (q : B → Bool) → ((x : A) → q (f x) ≡ p x) → (l : List A) → first_index q (map f l) ≡ first_index p l
   first-map p q same [] = refl
   first-map p q same (x ∷ xs) = λ i. cond (same x i) 0 (suc (first-map p q same xs i))

@@ -16,7 +16,7 @@ use Rattle.nib.specs.Identifiers.{link_cost}
 use Rattle.nib.specs.Neighbors.{blank, entry_at}
 use Rattle.nib.specs.declared.NwkNeighbor.{NwkNeighbor}
 use Rattle.text.specs.Text.{digit_byte, decimal_digits, decimal_text, hex_text, spaces, right_text}
-use Rattle.text.proofs.Numbers.{both}
+use Rattle.std.proofs.lemmas.Bool.{and_parts}
 use Rattle.neighbor_page.specs.Page.{spaced, row, first_row, entry_row, blank_row, slot_row, below, rows, page, too_short, written}
 use Rattle.neighbor_page.specs.Statement.{characters, PageForm}
 use Rattle.neighbor_page.proofs.Gathered.{rows-length, below_length}
@@ -29,7 +29,7 @@ Characters l = All (λ b. 32 ≤ b) l
 
 tested : (l : List ℕ) → every (leb 32) l ≡ true → Characters l
 tested [] h = tt
-tested (b ∷ bs) h = let t = both (leb 32 b) (every (leb 32) bs) h in (leb-true 32 b t.0, tested bs t.1)
+tested (b ∷ bs) h = let t = and_parts (leb 32 b) (every (leb 32) bs) h in (leb-true 32 b t.0, tested bs t.1)
 
 joined : (a b : List ℕ) → Characters a → Characters b → Characters (a ++ b)
 joined [] b h k = k

@@ -11,7 +11,8 @@ use lib.Dec.{eqb, ltb}
 use lib.ListN.{length, length-map}
 use Rattle.lists.specs.Lists.{first_index, change_at, some, All}
 use Rattle.lists.proofs.Conditions.{split}
-use Rattle.lists.proofs.Ranks.{get_d_map, first-map, map-change}
+use Rattle.std.proofs.lemmas.List.{get_or-map}
+use Rattle.lists.proofs.Ranks.{first-map, map-change}
 use Rattle.nib.specs.Neighbors.{entry_at, blank}
 use Rattle.nib.specs.declared.IeeeAddress.{IeeeAddress}
 use Rattle.nib.specs.declared.ShortAddress.{ShortAddress}
@@ -35,7 +36,7 @@ pub entry_seen : (es : List NwkNeighbor) (i : ℕ) → seen_in es (entry_at es i
 unfolding seen
 entry_seen es i =
     split (ltb i (length es))
-    (λ t. rw (length-map es (look (ieee_in es)), t) (ap (λ (e : NwkNeighbor). Some e) (sym (get_d_map (look (ieee_in es)) es i blank blank (ltb-true i (length es) t)))))
+    (λ t. rw (length-map es (look (ieee_in es)), t) (ap (λ (e : NwkNeighbor). Some e) (sym (get_or-map (look (ieee_in es)) es i blank blank (ltb-true i (length es) t)))))
     (λ t. rw (length-map es (look (ieee_in es)), t))
 
 pub parent-seen : (es : List NwkNeighbor) → seen_in es (parent_of es) ≡ parent_of (seen es)

@@ -8,7 +8,8 @@ use native.Mathlib.Omega.{arith}
 use lib.Dec.{eqb, ltb, leb}
 use lib.ListN.{length, get_or, length-drop, get_or-eq_default}
 use borrow.Author.Tests.{ltb-true, ltb-false, eqb-false}
-use Rattle.lists.proofs.Conditions.{split, neither}
+use Rattle.std.proofs.lemmas.Bool.{or_parts}
+use Rattle.lists.proofs.Conditions.{split}
 use Rattle.nib.specs.Neighbors.{entry_at, blank}
 use Rattle.nib.specs.declared.NwkNeighbor.{NwkNeighbor}
 use Rattle.nib.specs.NeighborTable.{seen_in}
@@ -102,9 +103,9 @@ few-taken : (s : State) → bad s ≡ false → s.candidates.taken ≤ 16
 unfolding bad
 few-taken s h =
     ltb-false 16 s.candidates.taken
-    (neither (ltb 16 s.candidates.taken) _
-    (neither (ltb 16 s.candidates.list.count) _
-    (neither (ltb 16 s.control.nlme.transmit_failures.count) _ (neither (ltb 16 s.table.count) _ h).1).1).1).0
+    (or_parts (ltb 16 s.candidates.taken) _
+    (or_parts (ltb 16 s.candidates.list.count) _
+    (or_parts (ltb 16 s.control.nlme.transmit_failures.count) _ (or_parts (ltb 16 s.table.count) _ h).1).1).1).0
 
 -- what holds of both sides of a condition
 pub either : {A : Type 0} (P : A → Type 0) (b : Bool) {x y : A} → (b ≡ true → P x) → (b ≡ false → P y) → P (cond b x y)

@@ -4,8 +4,8 @@ use Prim.Native.Nat.{ℕ, zero, suc}
 use mathlib.Core.Path.{refl}
 use mathlib.Core.Bool.{true, false}
 use mathlib.Core.List.{List, [], ◌∷◌, ◌++◌, flat_map}
-use lib.ListN.{replicate}
 use Rattle.nib.specs.Identifiers.{link_cost}
+use Rattle.nib.specs.Attributes.{blank_nib}
 use Rattle.nib.specs.Neighbors.{table_of}
 use Rattle.nib.specs.declared.NwkNeighbor.{NwkNeighbor}
 use Rattle.nib.specs.declared.DeviceType.TheVariants.{Router}
@@ -14,17 +14,17 @@ use Rattle.discovery.specs.declared.mlme.PanDescriptor.{PanDescriptor}
 use Rattle.discovery.specs.declared.mlme.Address.TheVariants.{Short}
 use Rattle.discovery.specs.Discovery.{potential_parent_of, entry_of, neighbor_by, present, neighbors_of}
 use Rattle.candidates.specs.UpdateIds.{newer, newest}
-use Rattle.candidates.specs.Candidates.{list_of, eligible, candidates}
+use Rattle.candidates.specs.Candidates.{eligible, candidates}
 use Rattle.candidates.specs.Tries.{parent_in, skipped, next_index, next_in, taking, adopted_next}
 use Rattle.management.specs.declared.RejoinNetwork.TheVariants.{NwkRejoin}
 use Rattle.management.specs.declared.NlmeJoinRequest.{NlmeJoinRequest}
 use Rattle.management.specs.declared.frame.ReceivedFrame.TheVariants.{LeaveCommand}
-use Rattle.nlme.specs.Nlme.{negotiation_reset}
+use Rattle.nlme.specs.Nlme.{new_nlme, negotiation_reset}
 use Rattle.nlme.specs.Received.{taught_by, taught, accepts_leave, leave_requested, leave_handled, handled, left_for, leave_announced}
 use Rattle.operation.specs.Operation.{polling, poll_on}
-use Rattle.operation.specs.declared.Phase.TheVariants.{Idle}
 use Rattle.join.specs.Rejoin.{invalid, trying, scan_or_end, try_remembered, rejoin_started, try_candidate, try_next, try_failed, answered_by, request_sent}
-use Rattle.node.specs.Looks.{moved, potential_cleared, finish}
+use Rattle.node.specs.Beginning.{new_state}
+use Rattle.node.specs.Looks.{with_table, moved, potential_cleared, finish}
 use Rattle.node.specs.Refusals.{bad, outcome}
 use Rattle.node.specs.Calls.{with_chosen, join_by, with_scan, scan_heard, scan_over, continuing, table_changed, after, reception_over, after_leave, transmission_over, Call, scan, transmission, reception, answer}
 use Rattle.node.specs.declared.State.{State}
@@ -57,46 +57,18 @@ remembered =
 
 abbrev lost : State
 lost =
-    record {
-      control = record {
-        nlme = record {
-          nib = record {
-            network_address = record { 0 = 9 };
-            ieee_address = record { 0 = 9 };
-            extended_panid = record { 0 = 5 };
-            panid = record { 0 = 5 };
-            update_id = 0;
-            capability_information = record { 0 = 2 };
-            stack_profile = 2;
-            parent_information = 0;
-            end_device_timeout = 0;
-            end_device_timeout_default = 0;
-            leave_request_allowed = true;
-          };
-          nwk_seq = 0;
-          pending_timeout_request = 255;
-          parent_timer = record { remaining_ms = 0 };
-          signals = record {
-            rejoin_response = None;
-            timeout_response = None;
-            leave_indication = None;
-            nwk_status_indication = None;
-          };
-          transmit_failures = record { pairs = replicate 16 (record { address = record { 0 = 0 }; count = 0 }); count = 0 };
-        };
-        operation = record {
-          phase = Idle;
-          extended_pan_id = record { 0 = 0 };
-          security_enabled = false;
-          scan = record { first = 0; past = 0; duration = 0 };
-          scan_requested = false;
-          channel = 0;
-          polls_left = 0;
-        };
-      };
-      table = table_of (remembered ∷ []);
-      candidates = record { list = list_of []; taken = 0 };
-    }
+    with_table (table_of (remembered ∷ []))
+    (new_state
+    (record (blank_nib (record { 0 = 9 })) {
+      network_address = record { 0 = 9 };
+      extended_panid = record { 0 = 5 };
+      panid = record { 0 = 5 };
+      capability_information = record { 0 = 2 };
+      stack_profile = 2;
+      end_device_timeout = 0;
+      end_device_timeout_default = 0;
+    })
+    0)
 
 abbrev request : NlmeJoinRequest
 request =
@@ -146,7 +118,7 @@ abbrev calls : List Call
 calls = unanswered_try ++ (heard_beacons ∷ times 16 unanswered_try)
 
 pub bound-reached : BoundReached
-unfolding answer bad outcome join_by rejoin_started invalid try_remembered trying negotiation_reset finish moved potential_cleared parent_in parent_of
+unfolding new_state new_nlme answer bad outcome join_by rejoin_started invalid try_remembered trying negotiation_reset finish moved potential_cleared parent_in parent_of
     transmission_over request_sent answered_by polling poll_on try_failed scan_or_end reception_over taught taught_by on_entries handled leave_handled leave_requested
     accepts_leave table_changed after after_leave leave_announced left_for continuing scan_over scan_heard with_scan neighbors_of neighbor_by entry_of present
     potential_parent_of with_chosen candidates eligible link_cost newest newer flat_map try_next try_candidate next_in next_index skipped taking adopted_next

@@ -13,7 +13,8 @@ use lib.ListN.{length, take, drop, get_or, get_or-append, set, replicate, length
 use lib.Seq.{length-take-le}
 use Rattle.lists.specs.Lists.{first_index, change_at}
 use Rattle.lists.specs.Private.{remove_at}
-use Rattle.lists.proofs.Lists.{over-snoc, take_next}
+use Rattle.std.proofs.lemmas.List.{take_more}
+use Rattle.lists.proofs.Lists.{over-snoc}
 use Rattle.lists.proofs.Pairs.{over-set, change-is, remove-snoc, remove-last, remove-le}
 use Rattle.supervision.specs.Failures.{blank_pair, pairs_of, failures_of, counted_once, one_more}
 use Rattle.supervision.specs.declared.TransmitFailure.{TransmitFailure}
@@ -39,11 +40,11 @@ module _ (l : List TransmitFailure) (place i : ℕ) (h : i < length l) (few : le
   pub leaving-other : (i ≡ place → ⊥) → pair_pushed (failures_of (remove_at place (take i l))) (get_or l i blank_pair) ≡ failures_of (remove_at place (take (i + 1) l))
   leaving-other n =
       push-of (remove_at place (take i l)) (get_or l i blank_pair) leaving-room
-      ∙ sym (ap failures_of (ap (remove_at place) (take_next l i blank_pair h)
+      ∙ sym (ap failures_of (ap (remove_at place) (take_more l i blank_pair h)
       ∙ remove-snoc place (take i l) (get_or l i blank_pair) (λ s. n (omega (arith, length-take-le i l (omega arith))))))
 
   pub leaving-this : i ≡ place → remove_at place (take (i + 1) l) ≡ remove_at place (take i l)
-  leaving-this e = ap (remove_at place) (take_next l i blank_pair h) ∙ remove-last place (take i l) (get_or l i blank_pair) (omega (arith, length-take-le i l (omega arith)))
+  leaving-this e = ap (remove_at place) (take_more l i blank_pair h) ∙ remove-last place (take i l) (get_or l i blank_pair) (omega (arith, length-take-le i l (omega arith)))
 
 -- one failure more, written at its place
 abbrev pub counted_at : TransmitFailures → ℕ → Recorded

@@ -1,18 +1,19 @@
 -- Laws of numbers that are read and written. Assumes nothing.
 use Prim.Native.Nat.{ℕ, zero, suc, ◌+◌, ◌-◌, ◌*◌, ◌/◌, ◌%◌, ◌^◌, ◌<◌, ◌≤◌, zero-le}
 use mathlib.Core.Path.{◌≡◌, refl, sym, ap, ◌∙◌, subst}
-use mathlib.Core.Bool.{Bool, true, false, cond, not, false≢true, ◌&&◌, ◌||◌}
+use mathlib.Core.Bool.{Bool, true, false, cond, not, ◌&&◌, ◌||◌}
 use mathlib.Core.List.{List, [], ◌∷◌, ◌++◌, append_assoc}
 use native.Mathlib.Nat.{not-suc-le-zero, le_of_suc-le-suc, zero-add, suc-add, le_refl, le_trans, lt_of_lt_of_le, one-le-pow, pow-suc, pow-succ', pow-zero, div-lt_iff_lt-mul, mul_assoc, mul-one, one-mul, suc-mul, mul-le-mul_left, mul-le-mul_right}
 use native.Mathlib.Numerals.{add-one}
 use native.Mathlib.Omega.{arith}
 use borrow.Author.Tests.{lt-ltb, le-ltb, lt-leb, ltb-true, leb-true, eqb-true}
 use Rattle.std.specs.Prelude.{Option, Some, None, unwrap_or}
+use Rattle.std.proofs.lemmas.Bool.{and_parts}
+use Rattle.std.proofs.lemmas.List.{drop-set}
 use lib.Dec.{ltb, leb, eqb}
 use lib.ListN.{length, take, drop, get_or, set, length-append, length-drop, length-replicate}
 use lib.Seq.{drop-cons, drop-drop}
 use Rattle.lists.specs.Lists.{every}
-use Rattle.lists.proofs.Bytes.{drop-set}
 use Rattle.text.specs.Text.{digit_of, value_from, number_from, decimal_of, hex_of, digit_byte, decimal_digits, decimal_text, hex_text, spaces, right_text}
 
 -- a number in a base is at least its front
@@ -26,10 +27,6 @@ value_grows base h v (b ∷ bs) = le_trans (grows base v (digit_of b) h) (value_
 none-past : (e : Bool) (x y : Option ℕ) → cond (e && false) x y ≡ y
 none-past true x y = refl
 none-past false x y = refl
-
-pub not-not : (b : Bool) → b ≡ not (not b)
-not-not true = refl
-not-not false = refl
 
 -- a loop that reads digits: what the next one at i does
 module _ (base limit v : ℕ) (f : List ℕ) (i : ℕ) (h : i < length f) where
@@ -82,8 +79,9 @@ hex-next from zero left bytes t h = let f : ⊥ = omega arith in absurd f
 hex-next from (suc a) left bytes t h =
     let e : a ≡ suc a - 1 = omega arith in
     let d : suc a - from ≡ suc (a - from) = omega arith in
-    ap (λ (k : ℕ). hex_text k left ++ drop (suc a) bytes) d
-    ∙ append_assoc (hex_text (a - from) (left / 16)) (digit_byte (left % 16) ∷ []) (drop (suc a) bytes)
+    let n : suc a ≡ a + 1 = omega arith in
+    (λ i. hex_text (d i) left ++ drop (n i) bytes)
+    ∙ append_assoc (hex_text (a - from) (left / 16)) (digit_byte (left % 16) ∷ []) (drop (a + 1) bytes)
     ∙ ap (λ (z : List ℕ). hex_text (a - from) (left / 16) ++ z) (sym (drop-set bytes a (digit_byte (left % 16)) h))
     ∙ ap (λ (k : ℕ). hex_text (k - from) (left / 16) ++ drop k (set bytes k (digit_byte (left % 16)))) e
 
@@ -122,14 +120,10 @@ decimal-short j n h = short 10 j n h
         go false r = simp length-append (omega arith)
 
 -- how large a number is that is read
-pub both : (a b : Bool) → (a && b) ≡ true → (a ≡ true) × (b ≡ true)
-both true b h = (refl, h)
-both false b h = absurd (false≢true h)
-
 value-below : (base v : ℕ) (f : List ℕ) → every (λ b. ltb (digit_of b) base) f ≡ true → value_from base v f < suc v * base ^ length f
 value-below base v [] h = rw (pow-zero base, mul-one (suc v)) (le_refl (suc v))
 value-below base v (b ∷ bs) h =
-    let t = both (ltb (digit_of b) base) (every (λ x. ltb (digit_of x) base) bs) h in
+    let t = and_parts (ltb (digit_of b) base) (every (λ x. ltb (digit_of x) base) bs) h in
     let d : digit_of b < base = ltb-true (digit_of b) base t.0 in
     let m : suc (v * base + digit_of b) ≤ suc v * base = omega (arith, suc-mul v base) in
     let e : suc v * base * base ^ length bs ≡ suc v * base ^ suc (length bs) = mul_assoc (suc v) base (base ^ length bs) ∙ ap (λ (n : ℕ). suc v * n) (sym (pow-succ' base (length bs))) in

@@ -50,9 +50,6 @@ module _ (j n : ℕ) where
   pub taking-next : (byte left : ℕ) → 10 ^ j ≤ left → Taking j n byte left → Taking j n (byte + 1) (left - 10 ^ j)
   taking-next byte left h t = (omega (arith, t.0, div-eq-sub-div some h), sym (mod-eq-sub-mod h) ∙ t.1)
 
-  pub taking-fits : (byte left : ℕ) → 10 ^ j ≤ left → Taking j n byte left → byte < 57
-  taking-fits byte left h t = omega (arith, t.0, div-eq-sub-div some h, one-digit)
-
   pub taken : (byte left : ℕ) → left < 10 ^ j → Taking j n byte left → (byte ≡ digit_byte (n % 10 ^ suc j / 10 ^ j)) × (left ≡ n % 10 ^ j)
   taken byte left h t =
       let b : byte ≡ 48 + n % 10 ^ suc j / 10 ^ j = omega (arith, t.0, div-eq_of_lt h) in

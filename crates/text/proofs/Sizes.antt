@@ -12,14 +12,14 @@ use lib.Dec.{ltb, leb, eqb}
 use lib.ListN.{length}
 use Rattle.lists.specs.Lists.{every}
 use Rattle.text.specs.Text.{parts, same_text, digit_of, value_from, number_from, decimal_of, hex_of}
-use Rattle.text.proofs.Numbers.{both}
+use Rattle.std.proofs.lemmas.Bool.{and_parts}
 use Rattle.text.proofs.Parts.{parts-some}
 
 pub same_size : (a b : List ℕ) → same_text a b ≡ true → length a ≡ length b
 same_size [] [] h = refl
 same_size [] (y ∷ ys) h = absurd (false≢true h)
 same_size (x ∷ xs) [] h = absurd (false≢true h)
-same_size (x ∷ xs) (y ∷ ys) h = ap suc (same_size xs ys (both (eqb x y) (same_text xs ys) h).1)
+same_size (x ∷ xs) (y ∷ ys) h = ap suc (same_size xs ys (and_parts (eqb x y) (same_text xs ys) h).1)
 
 pub hex-size : (k : ℕ) (f : List ℕ) → is_some (hex_of k f) ≡ true → length f ≡ k
 unfolding hex_of

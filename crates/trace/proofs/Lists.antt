@@ -8,7 +8,7 @@ use lib.Seq.{length-take-le}
 use Rattle.std.specs.Prelude.{Option, Some, None}
 use Rattle.lists.specs.Lists.{over}
 use Rattle.lists.proofs.Collect.{flat_map-append}
-use Rattle.lists.proofs.Lists.{take_next}
+use Rattle.std.proofs.lemmas.List.{take_more}
 use Rattle.text.proofs.Written.{in_turn, from_start, same_buffer}
 use Rattle.trace_lines.specs.TraceLines.{line_text}
 use Rattle.trace_lines.proofs.Texts.{line-short}
@@ -43,7 +43,7 @@ module _ {A : Type 0} (f : A → Line) where
   unfolding flat_map
   each-next l i d h =
       let g : A → Option Line = λ x. Some (f x) in
-      sym (ap (λ (z : List A). lines_text (each_line f z)) (take_next l i d h)
+      sym (ap (λ (z : List A). lines_text (each_line f z)) (take_more l i d h)
       ∙ ap lines_text (map-append g (take i l) (get_or l i d ∷ []))
       ∙ flat_map-append some_text (map g (take i l)) (g (get_or l i d) ∷ [])
       ∙ ap (λ (z : List ℕ). lines_text (each_line f (take i l)) ++ z) (append-nil (line_text (f (get_or l i d)))))

@@ -11,8 +11,9 @@ use lib.Dec.{eqb}
 use lib.ListN.{length, take, drop, get_or, set, length-drop, length-map, length-set, drop_of_length-le}
 use lib.Seq.{drop-cons, take_all, length-take-le}
 use Rattle.lists.specs.Lists.{every, some, over}
-use Rattle.lists.proofs.Conditions.{pick_true}
-use Rattle.lists.proofs.Lists.{take_next, over-snoc}
+use Rattle.std.proofs.lemmas.Bool.{cond-true}
+use Rattle.std.proofs.lemmas.List.{take_more}
+use Rattle.lists.proofs.Lists.{over-snoc}
 use Rattle.std.specs.Prelude.{Option, Some, None, is_some}
 use Rattle.std.specs.Iterator.{Yields}
 use Rattle.std.specs.List.{zip, enumerate_from}
@@ -83,7 +84,7 @@ module _ (k : InputKind) (fs : List (List ℕ)) where
           let v : List ℕ = 0 ∷ map or_zero (take n readings) in
           let w : length v ≡ n + 1 = ap suc (length-map (take n readings) or_zero ∙ length-take-le n readings (omega arith)) ∙ sym (add-one n) in
           let s : v ++ (x ∷ []) ≡ 0 ∷ map or_zero (take (n + 1) readings) =
-          ap (λ (z : List ℕ). 0 ∷ z) (sym (ap (map or_zero) (take_next readings n None u) ∙ map-append or_zero (take n readings) (get_or readings n None ∷ []) ∙ ap (λ (o : Option ℕ). map or_zero (take n readings) ++ (or_zero o ∷ [])) f)) in
+          ap (λ (z : List ℕ). 0 ∷ z) (sym (ap (map or_zero) (take_more readings n None u) ∙ map-append or_zero (take n readings) (get_or readings n None ∷ []) ∙ ap (λ (o : Option ℕ). map or_zero (take n readings) ++ (or_zero o ∷ [])) f)) in
           let y : set ns (n + 1) x ≡ over zeros (0 ∷ map or_zero (take (n + 1) readings)) =
           ap (λ (z : List ℕ). set z (n + 1) x) r.3 ∙ ap (λ (a : ℕ). set (over zeros v) a x) (sym w) ∙ over-snoc zeros v x (omega arith) ∙ ap (over zeros) s in
           rw (p, q) (
@@ -107,7 +108,7 @@ module _ (k : InputKind) (fs : List (List ℕ)) where
           let v : take n readings ≡ readings = take_all n readings (omega (arith, reading-count)) in
           let w : ns ≡ over zeros (0 ∷ map or_zero readings) = r.3 ∙ ap (λ (z : List (Option ℕ)). over zeros (0 ∷ map or_zero z)) v in
           (λ j. Some (record { kind = k; dash = sym u j; numbers = w j }))
-          ∙ pick_true (eqb (length (drop 1 fs)) (length ls) && every is_some readings) _ None (rw (t, eq-eqb (length (drop 1 fs)) (length ls) further))
+          ∙ sym (cond-true (eqb (length (drop 1 fs)) (length ls) && every is_some readings) _ None (rw (t, eq-eqb (length (drop 1 fs)) (length ls) further)))
         where
           self : (x : Bool) → cond x true false ≡ x
           self true = refl

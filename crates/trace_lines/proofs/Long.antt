@@ -12,7 +12,7 @@ use Rattle.lists.specs.Lists.{every}
 use Rattle.lists.proofs.Conditions.{split}
 use Rattle.text.specs.Text.{bytes, fields, same_text, hex_of, decimal_of}
 use Rattle.std.specs.Prelude.{Some, None, is_some}
-use Rattle.text.proofs.Numbers.{both}
+use Rattle.std.proofs.lemmas.Bool.{and_parts}
 use Rattle.text.proofs.Parts.{parts-some}
 use Rattle.text.proofs.Sizes.{same_size, hex-size, decimal-size, total, total-parts}
 use Rattle.trace_lines.specs.TraceLines.{four_digits, sixteen_digits, or_dash, digit_two, digit_three, greatest, number_of, kinds, word_of, letters_of, all_fit, fits, read_by, line_of}
@@ -59,7 +59,7 @@ fields-size [] [] e h = zero-le
 fields-size [] (f ∷ fs) e h = let x : ⊥ = omega arith in absurd x
 fields-size (l ∷ ls) [] e h = zero-le
 fields-size (l ∷ ls) (f ∷ fs) e h =
-    let b = both (is_some (number_of l f)) (every is_some (zip_with number_of ls fs)) h in
+    let b = and_parts (is_some (number_of l f)) (every is_some (zip_with number_of ls fs)) h in
     let n : length fs ≡ length ls = omega arith in
     omega (arith, number_size l f b.0, fields-size ls fs n b.1)
 
@@ -72,9 +72,9 @@ line-size : (kind : InputKind) (fs : List (List ℕ)) → small kind ≡ true �
 unfolding fits all_fit
 line-size kind [] s o h = zero-le
 line-size kind (f ∷ fs) s o h =
-    let k = both (leb (length (word_of kind)) 20) (leb (length (letters_of kind)) 19) s in
-    let w = both (same_text f (word_of kind)) (eqb (length fs) (length (letters_of kind)) && every is_some (zip_with number_of (letters_of kind) fs)) h in
-    let a = both (eqb (length fs) (length (letters_of kind))) (every is_some (zip_with number_of (letters_of kind) fs)) w.1 in
+    let k = and_parts (leb (length (word_of kind)) 20) (leb (length (letters_of kind)) 19) s in
+    let w = and_parts (same_text f (word_of kind)) (eqb (length fs) (length (letters_of kind)) && every is_some (zip_with number_of (letters_of kind) fs)) h in
+    let a = and_parts (eqb (length fs) (length (letters_of kind))) (every is_some (zip_with number_of (letters_of kind) fs)) w.1 in
     let n = eqb-true (length fs) (length (letters_of kind)) a.0 in
     omega (arith, same_size f (word_of kind) w.0, leb-true (length (word_of kind)) 20 k.0, leb-true (length (letters_of kind)) 19 k.1, fields-size (letters_of kind) fs n a.1)
 
@@ -89,7 +89,7 @@ module _ (line : List ℕ) (h : 512 ≤ length line) where
   none : (ks : List InputKind) → every small ks ≡ true → read_by ks (fields line) ≡ None
   unfolding read_by
   none [] s = refl
-  none (k ∷ ks) s = let b = both (small k) (every small ks) s in rw (other k b.0) (none ks b.1)
+  none (k ∷ ks) s = let b = and_parts (small k) (every small ks) s in rw (other k b.0) (none ks b.1)
 
   pub long-line : line_of line ≡ None
   unfolding line_of

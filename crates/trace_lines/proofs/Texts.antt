@@ -9,7 +9,8 @@ use lib.Dec.{eqb}
 use lib.ListN.{length, take, get_or, length-append, length-map, length-take}
 use lib.Seq.{length-take-le}
 use Rattle.lists.specs.Lists.{All}
-use Rattle.lists.proofs.Lists.{take_next, over-take}
+use Rattle.std.proofs.lemmas.List.{take_more}
+use Rattle.lists.proofs.Lists.{over-take}
 use Rattle.text.proofs.Numbers.{decimal-long, hex-long}
 use Rattle.text.proofs.Written.{in_turn, from_start, same_buffer}
 use Rattle.trace_lines.specs.declared.Field.{Field}
@@ -122,7 +123,7 @@ fields-next line i d h =
     let n : length ts ≡ i = length-map (take i line) field_text ∙ length-take-le i line (omega arith) in
     ap (λ (j : ℕ). joined ts ++ (tab_before j ++ field_text (get_or line i d))) (sym n)
     ∙ sym (joined_snoc ts (field_text (get_or line i d)))
-    ∙ ap joined (sym (ap (map field_text) (take_next line i d h) ∙ map-append field_text (take i line) (get_or line i d ∷ [])))
+    ∙ ap joined (sym (ap (map field_text) (take_more line i d h) ∙ map-append field_text (take i line) (get_or line i d ∷ [])))
 
 -- for the fields of a line in turn
 pub ruleset field_by_field = (in_turn, fields-next)

@@ -6,7 +6,8 @@ use Prim.Native.Nat.{ℕ}
 use mathlib.Core.Path.{◌≡◌, refl, sym, ◌∙◌}
 use mathlib.Core.Bool.{Bool, true, false, cond, false≢true}
 use lib.Dec.{eqb, leb}
-use Rattle.lists.proofs.Conditions.{pick-false, by_cases, both-cases}
+use Rattle.std.proofs.lemmas.Bool.{cond-false}
+use Rattle.lists.proofs.Conditions.{by_cases, both-cases}
 use Rattle.nib.specs.declared.CapabilityInformation.{CapabilityInformation}
 use Rattle.nib.specs.declared.NwkNeighbor.{NwkNeighbor}
 use Rattle.management.specs.declared.NlmeJoinStatus.{NlmeJoinStatus}
@@ -75,10 +76,6 @@ pub record OnD (n : ℕ) (b : Bool) (d : Decision) : Type 0 where
 module _ (n : ℕ) where
   either : {b : Bool} (x : Bool) {d e : Decision} → OnD n b d → OnD n b e → OnD n b (cond x d e)
   either {b} x p q = by_cases (OnD n b) x (λ _. p) q
-
-  -- what holds before the scan and after it
-  pub anyhow : {b : Bool} {d : Decision} → OnD n false d → OnD n b d
-  anyhow h = record { kept = h.kept; ends = h.ends; calm = λ _. h.calm refl }
 
   after-scan : (b : Bool) {d : Decision} → OnD n true d → b ≡ true → OnD n b d
   after-scan b h t = record { kept = h.kept; ends = h.ends; calm = λ f. never b f t }
@@ -178,7 +175,7 @@ module _ (n : ℕ) where
 module _ (x y : Option NwkNeighbor) where
   failed-unseen : (st : NlmeJoinStatus) (c : Control) → c.operation.scan_requested ≡ false → try_failed st x c ≡ try_failed st y c
   unfolding try_failed
-  failed-unseen st c f = sym (pick-false c.operation.scan_requested _ _ f) ∙ pick-false c.operation.scan_requested _ _ f
+  failed-unseen st c f = cond-false c.operation.scan_requested _ _ f ∙ sym (cond-false c.operation.scan_requested _ _ f)
 
   module _ (c : Control) (f : c.operation.scan_requested ≡ false) where
     polls-unseen : (p : Option NwkNeighbor) → poll_on Purpose.RejoinResponse p (try_failed NlmeJoinStatus.MacError x) c ≡ poll_on Purpose.RejoinResponse p (try_failed NlmeJoinStatus.MacError y) c

@@ -6,7 +6,8 @@ use mathlib.Core.Bool.{Bool, true, false, false≢true}
 use mathlib.Core.List.{List, [], ◌∷◌, map, flat_map}
 use native.Mathlib.Omega.{arith}
 use lib.ListN.{length, replicate}
-use Rattle.nib.specs.Neighbors.{table_of}
+use Rattle.nib.specs.Attributes.{blank_nib}
+use Rattle.nib.specs.declared.Nib.{Nib}
 use Rattle.discovery.specs.declared.mlme.Address.TheVariants.{Short}
 use Rattle.discovery.specs.declared.mlme.PanDescriptor.{PanDescriptor}
 use Rattle.management.specs.declared.RejoinNetwork.{RejoinNetwork}
@@ -20,24 +21,25 @@ use Rattle.management.specs.declared.frame.ReceivedFrame.{ReceivedFrame}
 use Rattle.management.specs.declared.frame.SentFrame.{SentFrame}
 use Rattle.management.specs.declared.frame.SentFrame.TheVariants.{CommandFrame}
 use Rattle.management.specs.declared.frame.SentCommand.TheVariants.{RejoinRequest, Leave}
-use Rattle.operation.specs.Operation.{is_idle, polling, poll_on}
+use Rattle.operation.specs.Operation.{is_idle, with_operation, polling, poll_on}
 use Rattle.operation.specs.declared.ScanFor.{ScanFor}
 use Rattle.operation.specs.declared.Phase.{Phase}
 use Rattle.operation.specs.declared.RadioRequest.TheVariants.{Scan, Associate, Transmit, Poll}
 use Rattle.operation.specs.declared.Step.{Step}
 use Rattle.operation.specs.declared.Step.TheVariants.{Refused, Ask, Discovered, Joined, StatusTaken}
-use Rattle.node.specs.Looks.{entries, moved, potential_cleared, finish}
+use Rattle.node.specs.Beginning.{new_state}
+use Rattle.node.specs.Looks.{with_control, entries, moved, potential_cleared, finish}
 use Rattle.node.specs.Refusals.{refuse, bad, outcome}
 use Rattle.node.specs.Calls.{with_chosen, associate, join_by, with_scan, scan_heard, scan_over, continuing, table_changed, after, reception_over, transmission_over, Call, discovery, join, scan, transmission, reception, take_status, answer}
 use Rattle.candidates.specs.Tries.{parent_in, tried_index, skipped, next_index, next_in, past_table, taking, adopted_next}
 use Rattle.nib.specs.NeighborTable.{found, ieee_of, parent_of, on_entries, learnt, marked, adopted, retained}
-use Rattle.candidates.specs.Candidates.{list_of, eligible, depth_at, candidates}
+use Rattle.candidates.specs.Candidates.{eligible, depth_at, candidates}
 use Rattle.candidates.specs.UpdateIds.{newer, newest}
 use Rattle.discovery.specs.Discovery.{potential_parent_of, entry_of, neighbor_by, present, neighbors_of}
 use Rattle.join.specs.Join.{failure, associating, join_started, failed_status}
 use Rattle.join.specs.Rejoin.{invalid, trying, scan_or_end, try_remembered, rejoin_started, try_candidate, try_next, try_failed, rejoined, responded, answered_by, request_sent}
 use Rattle.nlme.specs.Received.{taught_by, taught, rejoin_responded, neighbor_left, accepts_leave, announcement, leave_requested, leave_handled, handled}
-use Rattle.nlme.specs.Nlme.{negotiation_reset, command_header}
+use Rattle.nlme.specs.Nlme.{new_nlme, negotiation_reset, command_header}
 use Rattle.nib.specs.Identifiers.{link_cost}
 use Rattle.node.specs.declared.State.{State}
 use Rattle.two_nodes.specs.Statement.{Shown, shown, run, AlikeScan, within, same, scans, none, more}
@@ -52,49 +54,22 @@ use Rattle.operation.specs.declared.Refusal.TheVariants.{OperationUnderWay, TooM
 abbrev range : ScanRange
 range = record { first = 11; past = 27; duration = 3 }
 
--- a node with an own address (0xffff for none), a remembered network (0 for none), an empty table, and an operation that keeps the network's id
+-- the attributes of a node with an own address (0xffff for none) and a remembered network (0 for none)
+abbrev attributes : ℕ → ℕ → Nib
+attributes address network =
+    record (blank_nib (record { 0 = 1 })) {
+      network_address = record { 0 = address };
+      extended_panid = record { 0 = network };
+      capability_information = record { 0 = 0x80 };
+      stack_profile = 1;
+    }
+
+-- the node, with an empty table, and an operation that keeps the network's id
 abbrev node : ℕ → ℕ → Phase → State
 node address network awaited =
-    record {
-      control = record {
-        nlme = record {
-          nib = record {
-            network_address = record { 0 = address };
-            ieee_address = record { 0 = 1 };
-            extended_panid = record { 0 = network };
-            panid = record { 0 = 0xffff };
-            update_id = 0;
-            capability_information = record { 0 = 0x80 };
-            stack_profile = 1;
-            parent_information = 0;
-            end_device_timeout = 0xff;
-            end_device_timeout_default = 8;
-            leave_request_allowed = true;
-          };
-          nwk_seq = 0;
-          pending_timeout_request = 0xff;
-          parent_timer = record { remaining_ms = 0 };
-          signals = record {
-            rejoin_response = None;
-            timeout_response = None;
-            leave_indication = None;
-            nwk_status_indication = None;
-          };
-          transmit_failures = record { pairs = replicate 16 (record { address = record { 0 = 0 }; count = 0 }); count = 0 };
-        };
-        operation = record {
-          phase = awaited;
-          extended_pan_id = record { 0 = network };
-          security_enabled = false;
-          scan = range;
-          scan_requested = true;
-          channel = 0;
-          polls_left = 0;
-        };
-      };
-      table = table_of [];
-      candidates = record { list = list_of []; taken = 0 };
-    }
+    let s = new_state (attributes address network) 0 in
+    let o = record (s.control.operation) { phase = awaited; extended_pan_id = record { 0 = network }; scan = range; scan_requested = true } in
+    with_control (with_operation o s.control) s
 
 -- the beacon of a short address in a network on a channel, with an update id: joining permitted, room for routers and end devices, depth 1
 abbrev beacon : ℕ → ℕ → ℕ → ℕ → PanDescriptor
@@ -320,7 +295,7 @@ is_leave (Ok (Some (ReceivedFrame.OtherCommand s))) = false
 is_leave (Ok (Some ReceivedFrame.OtherFrame)) = false
 
 computed : Computed
-unfolding answer bad refuse outcome moved potential_cleared finish with_chosen associate join_by with_scan scan_heard scan_over continuing table_changed after reception_over transmission_over parent_in tried_index skipped next_index next_in past_table taking adopted_next found ieee_of parent_of on_entries learnt marked adopted retained eligible depth_at candidates newer newest potential_parent_of entry_of neighbor_by present neighbors_of associating join_started failed_status invalid trying scan_or_end try_remembered rejoin_started try_candidate try_next try_failed rejoined responded answered_by polling poll_on request_sent taught_by taught rejoin_responded neighbor_left accepts_leave announcement leave_requested leave_handled handled negotiation_reset command_header link_cost shown flat_map
+unfolding new_state new_nlme answer bad refuse outcome moved potential_cleared finish with_chosen associate join_by with_scan scan_heard scan_over continuing table_changed after reception_over transmission_over parent_in tried_index skipped next_index next_in past_table taking adopted_next found ieee_of parent_of on_entries learnt marked adopted retained eligible depth_at candidates newer newest potential_parent_of entry_of neighbor_by present neighbors_of associating join_started failed_status invalid trying scan_or_end try_remembered rejoin_started try_candidate try_next try_failed rejoined responded answered_by polling poll_on request_sent taught_by taught rejoin_responded neighbor_left accepts_leave announcement leave_requested leave_handled handled negotiation_reset command_header link_cost shown flat_map
 computed =
     record {
       joins-past = refl;

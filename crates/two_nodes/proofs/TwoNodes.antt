@@ -8,7 +8,8 @@ use mathlib.Core.Bool.{true, false}
 use mathlib.Core.List.{List, ◌∷◌}
 use borrow.Author.Tests.{ltb-false}
 use lib.Dec.{ltb}
-use Rattle.lists.proofs.Conditions.{split, pick_true, neither}
+use Rattle.std.proofs.lemmas.Bool.{or_parts, cond-true}
+use Rattle.lists.proofs.Conditions.{split}
 use Rattle.operation.specs.declared.Phase.{Phase}
 use Rattle.node.specs.Refusals.{refuse, bad}
 use Rattle.node.specs.Calls.{Call, answer}
@@ -26,7 +27,7 @@ use Rattle.operation.specs.declared.Refusal.TheVariants.{BadState}
 module _ (s : State) (b : bad s ≡ true) where
   refused : (c : Call) → answer s c ≡ refuse BadState s
   unfolding answer
-  refused c = sym (pick_true (bad s) _ _ b)
+  refused c = cond-true (bad s) _ _ b
 
   stays : (c : Call) → (answer s c).state ≡ s
   unfolding refuse
@@ -43,9 +44,9 @@ module _ (s : State) (b : bad s ≡ true) where
 tidy_of : (s : State) → bad s ≡ false → Tidy s
 unfolding bad
 tidy_of s h =
-    let table = neither (ltb 16 s.table.count) _ h in
-    let failures = neither (ltb 16 s.control.nlme.transmit_failures.count) _ table.1 in
-    let candidates = neither (ltb 16 s.candidates.list.count) _ failures.1 in
+    let table = or_parts (ltb 16 s.table.count) _ h in
+    let failures = or_parts (ltb 16 s.control.nlme.transmit_failures.count) _ table.1 in
+    let candidates = or_parts (ltb 16 s.candidates.list.count) _ failures.1 in
     record { small = ltb-false 16 s.table.count table.0; few = ltb-false 16 s.candidates.list.count candidates.0 }
 
 near-self : (n : ℕ) (s : State) → NoneUnderWay s → bad s ≡ false → Near n s s

@@ -13,7 +13,7 @@ use lib.Seq.{take_all, take-take, take-add, drop_at, length-take-le}
 use Rattle.lists.specs.Lists.{first_index, All}
 use Rattle.lists.proofs.First.{first-le}
 use Rattle.text.specs.Text.{bytes, parts, fields}
-use Rattle.text.proofs.Numbers.{both}
+use Rattle.std.proofs.lemmas.Bool.{and_parts}
 use Rattle.text.proofs.Parts.{parts-some, parts_first, parts-only}
 use Rattle.text.proofs.Sizes.{same_size, hex-size, decimal-size, total, total-parts}
 use Rattle.yard_list.specs.declared.Form.{Form}
@@ -53,7 +53,7 @@ line-size [] [] n h = zero-le
 line-size [] (f ∷ fs) n h = absurd (false≢true h)
 line-size (m ∷ ms) [] n h = zero-le
 line-size (m ∷ ms) (f ∷ fs) n h =
-    let t = both (fits m f) (all_fit ms fs) h in
+    let t = and_parts (fits m f) (all_fit ms fs) h in
     let a = fit-size m f n.0 t.0 in
     let b = line-size ms fs n.1 t.1 in
     omega arith
@@ -193,7 +193,7 @@ long-bad t h = go (ltb 0 k && (eqb k n && eqb (length (unended t)) 0)) refl
 
     go : (b : Bool) → (ltb 0 k && (eqb k n && eqb (length (unended t)) 0)) ≡ b → cond b (list_text (ended_lines t)) (bad_text (k + 1)) ≡ bad_text (k + 1)
     go true e =
-        let a = both (eqb k n) (eqb (length (unended t)) 0) (both (ltb 0 k) (eqb k n && eqb (length (unended t)) 0) e).1 in
+        let a = and_parts (eqb k n) (eqb (length (unended t)) 0) (and_parts (ltb 0 k) (eqb k n && eqb (length (unended t)) 0) e).1 in
         let s = right-short 17 0 t refl (eqb-true k n a.0) (eqb-true (length (unended t)) 0 a.1) in
         let x : ⊥ = omega arith in
         absurd x

@@ -10,7 +10,7 @@ use lib.Dec.{eqb, leb}
 use lib.ListN.{length, take, drop, get_or, length-map}
 use lib.Seq.{drop-cons, length-take-le}
 use Rattle.std.specs.List.{list_all, zip}
-use Rattle.lists.proofs.Lists.{take_next}
+use Rattle.std.proofs.lemmas.List.{take_more}
 use Rattle.nib.specs.Neighbors.{table_of, pushed}
 use Rattle.nib.specs.declared.NwkNeighbor.{NwkNeighbor}
 use Rattle.nib.specs.declared.NeighborTable.{NeighborTable}
@@ -75,4 +75,4 @@ table-next ls i t e h w p q =
     let n : length (f (take i ls)) ≡ i = length-map (take i ls) (λ l. entry_of (fields l)) ∙ length-take-le i ls (omega arith) in
     (λ j. pushed (p j) (q j))
     ∙ push-of (f (take i ls)) (entry_of (fields (get_or ls i []))) (omega (arith, n))
-    ∙ ap table_of (sym (ap f (take_next ls i [] h) ∙ map-append (λ l. entry_of (fields l)) (take i ls) (get_or ls i [] ∷ [])))
+    ∙ ap table_of (sym (ap f (take_more ls i [] h) ∙ map-append (λ l. entry_of (fields l)) (take i ls) (get_or ls i [] ∷ [])))

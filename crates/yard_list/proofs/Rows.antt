@@ -10,7 +10,7 @@ use lib.ListN.{length, take, drop, get_or, length-append, length-map, length-tak
 use lib.Seq.{length-take-le}
 use lib.Dec.{eqb, ltb}
 use Rattle.lists.specs.Lists.{All}
-use Rattle.lists.proofs.Lists.{take_next}
+use Rattle.std.proofs.lemmas.List.{take_more}
 use Rattle.nib.specs.Neighbors.{blank, entries_of, table_of}
 use Rattle.nib.specs.declared.NeighborTable.{NeighborTable}
 use Rattle.nib.proofs.Tables.{entries-of}
@@ -21,7 +21,8 @@ use Rattle.yard_list.specs.Private.{Named}
 use Rattle.nib.specs.declared.NwkNeighbor.{NwkNeighbor}
 use Rattle.candidates.proofs.Laws.{few, below}
 use Rattle.text.specs.Text.{parts, fields, decimal_text}
-use Rattle.text.proofs.Numbers.{both, decimal-long, decimal-short, decimal-most}
+use Rattle.std.proofs.lemmas.Bool.{and_parts}
+use Rattle.text.proofs.Numbers.{decimal-long, decimal-short, decimal-most}
 use Rattle.yard_list.specs.YardList.{good_from, hex_at, byte_at, flag_at, entry_of, entries_in, chosen, row_of, rows_from, header, list_text, bad_text, ended_lines, unended, yard_text}
 use Rattle.yard_list.proofs.Lines.{good_few}
 
@@ -38,7 +39,7 @@ module _ (es : List NwkNeighbor) where
   pub rows_next : (l : List ℕ) (i : ℕ) → i < length l → rows_from es 1 (take (i + 1) l) ≡ rows_from es 1 (take i l) ++ row_of (get_or es (get_or l i 0) blank) (i + 1) (get_or l i 0)
   rows_next l i h =
       let e : 1 + length (take i l) ≡ i + 1 = omega (arith, length-take-le i l (omega arith)) in
-      ap (rows_from es 1) (take_next l i 0 h) ∙ rows_snoc 1 (take i l) (get_or l i 0)
+      ap (rows_from es 1) (take_more l i 0 h) ∙ rows_snoc 1 (take i l) (get_or l i 0)
       ∙ ap (λ (n : ℕ). rows_from es 1 (take i l) ++ row_of (get_or es (get_or l i 0) blank) n (get_or l i 0)) e
 
 -- how long a line is
@@ -117,6 +118,6 @@ yard_short t = go (ltb 0 good && (eqb good ended && eqb (length (unended t)) 0))
 
     go : (b : Bool) → (ltb 0 good && (eqb good ended && eqb (length (unended t)) 0)) ≡ b → length (cond b (list_text (ended_lines t)) (bad_text (good + 1))) ≤ 512
     go true e =
-        let h = both (eqb good ended) (eqb (length (unended t)) 0) (both (ltb 0 good) (eqb good ended && eqb (length (unended t)) 0) e).1 in
+        let h = and_parts (eqb good ended) (eqb (length (unended t)) 0) (and_parts (ltb 0 good) (eqb good ended && eqb (length (unended t)) 0) e).1 in
         list-short (ended_lines t) (omega (arith, eqb-true good ended h.0, good_few 0 (ended_lines t) zero-le, length-take ended (parts 10 t)))
     go false e = bad-short (good + 1)

@@ -7,7 +7,7 @@ use native.Mathlib.Nat.{le_trans, pow-le-pow_right, mod-eq_of_lt, div-one}
 use native.Mathlib.Numerals.{add-one}
 use lib.ListN.{length, take, drop, set, length-set}
 use lib.Seq.{take_all, length-take-le, take-append_seam, drop-append_seam}
-use Rattle.lists.proofs.Bytes.{take-set}
+use Rattle.std.proofs.lemmas.List.{take_more_set}
 use Rattle.text.specs.Text.{digit_byte, decimal_digits, decimal_text}
 use Rattle.text.proofs.Powers.{Taking, taking-first, taking-next, taken, first-digit, next-digit}
 use Rattle.text.proofs.fill_decimal.Goals as goal
@@ -41,7 +41,7 @@ loop-power-preserved-then-power-left c =
 stands : (n at byte left : ℕ) (bytes front : List ℕ) → at < length bytes → left < 10 ^ (9 - at) → Taking (9 - at) n byte left
     → take at bytes ++ (digit_byte (n % 10 ^ suc (9 - at) / 10 ^ (9 - at)) ∷ []) ≡ front ++ decimal_digits (suc at) (n / 10 ^ (9 - at))
     → take (at + 1) (set bytes at byte) ≡ front ++ decimal_digits (suc at) (n / 10 ^ (9 - at))
-stands n at byte left bytes front h s t e = take-set bytes at byte h ∙ ap (λ (x : ℕ). take at bytes ++ (x ∷ [])) (taken (9 - at) n byte left s t).0 ∙ e
+stands n at byte left bytes front h s t e = take_more_set bytes at byte h ∙ ap (λ (x : ℕ). take at bytes ++ (x ∷ [])) (taken (9 - at) n byte left s t).0 ∙ e
 
 -- the last place ends: the number stands behind what stood before
 pub returns-then-at-eq9 : goal.returns-then-at-eq9

@@ -6,7 +6,8 @@ use mathlib.Core.List.{List, [], ◌∷◌, ◌++◌, append-nil}
 use native.Mathlib.Omega.{arith}
 use borrow.Author.Rules.{rules}
 use lib.ListN.{length, take, get_or, length-take}
-use Rattle.lists.proofs.Lists.{length-mapped, take_next, select-snoc}
+use Rattle.std.proofs.lemmas.List.{take_more}
+use Rattle.lists.proofs.Lists.{length-mapped, select-snoc}
 use Rattle.nib.specs.Neighbors.{table_of, pushed, blank}
 use Rattle.nib.specs.declared.NwkNeighbor.{NwkNeighbor}
 use Rattle.nib.specs.declared.NeighborTable.{NeighborTable}
@@ -23,7 +24,7 @@ loop-e-init c = c.new-out.ensures
 -- one entry more: it is kept, or it is not
 next : (a i : ℕ) (es : List NwkNeighbor) (b : Bool) → i < length es → not (has_address a (get_or es i blank)) ≡ b → retained a (take (i + 1) es) ≡ retained a (take i es) ++ cond b (get_or es i blank ∷ []) []
 unfolding retained
-next a i es b h t = rw (take_next es i blank h, select-snoc (λ e. not (has_address a e)) (take i es) (get_or es i blank), t)
+next a i es b h t = rw (take_more es i blank h, select-snoc (λ e. not (has_address a e)) (take i es) (get_or es i blank), t)
 
 -- `few`: of i entries at most i are kept, so there is room.
 -- Where the address is another, the entry is pushed behind those kept (`push-of`). Where it is the same, nothing is added (`append-nil`)

@@ -3,8 +3,8 @@ use mathlib.Core.Path.{◌≡◌, sym, ap, ◌∙◌}
 use mathlib.Core.Bool.{false}
 use lib.Dec.{ltb}
 use borrow.Author.Tests.{lt-ltb, le-ltb, ltb-false}
-use Rattle.std.specs.Prelude.{Result}
-use Rattle.lists.proofs.Conditions.{pick_true, pick-false}
+use Rattle.std.specs.Prelude.{Result, Ok}
+use Rattle.std.proofs.lemmas.Bool.{cond-true, cond-false}
 use Rattle.nib.specs.Neighbors.{table_of}
 use Rattle.nib.specs.declared.NeighborTable.{NeighborTable}
 use Rattle.discovery.specs.Mlme.{descriptors_of}
@@ -21,17 +21,19 @@ pub returns-then-list-gt-MAX_PAN_DESCRIPTOR_SIZE : goal.returns-then-list-gt-MAX
 unfolding scan_over
 returns-then-list-gt-MAX_PAN_DESCRIPTOR_SIZE c =
     let l = c.in-Ok.list in
-    c.refuse.ensures ∙ pick_true (ltb 27 l.count) _ _ (lt-ltb 27 l.count c.if-list-gt-MAX_PAN_DESCRIPTOR_SIZE.true)
-    ∙ sym (ap (λ (o : Result PanDescriptorList MacError). scan_over o c.args.purpose c.args.self) c.in-Ok.is)
+    c.refuse.ensures
+    ∙ sym (ap (λ (o : Result PanDescriptorList MacError). scan_over o c.args.purpose c.args.self) c.in-Ok.is
+    ∙ cond-true (ltb 27 l.count) _ _ (lt-ltb 27 l.count c.if-list-gt-MAX_PAN_DESCRIPTOR_SIZE.true))
 
 pub returns-then-short_addressed-gt-MAX_SHORT_ADDRESSED : goal.returns-then-short_addressed-gt-MAX_SHORT_ADDRESSED
 unfolding scan_over
 returns-then-short_addressed-gt-MAX_SHORT_ADDRESSED c =
     let l = c.in-Ok.list in
     let n = short_addressed (descriptors_of l) in
-    c.refuse-then-short_addressed-gt-MAX_SHORT_ADDRESSED.ensures ∙ pick_true (ltb 16 n) _ _ (ap (ltb 16) (sym c.short_addressed.ensures) ∙ lt-ltb 16 _ c.if-short_addressed-gt-MAX_SHORT_ADDRESSED.true)
-    ∙ pick-false (ltb 27 l.count) _ _ (le-ltb 27 l.count c.if-list-gt-MAX_PAN_DESCRIPTOR_SIZE.false)
-    ∙ sym (ap (λ (o : Result PanDescriptorList MacError). scan_over o c.args.purpose c.args.self) c.in-Ok.is)
+    c.refuse-then-short_addressed-gt-MAX_SHORT_ADDRESSED.ensures
+    ∙ sym (ap (λ (o : Result PanDescriptorList MacError). scan_over o c.args.purpose c.args.self) c.in-Ok.is
+    ∙ cond-false (ltb 27 l.count) _ _ (le-ltb 27 l.count c.if-list-gt-MAX_PAN_DESCRIPTOR_SIZE.false)
+    ∙ cond-true (ltb 16 n) _ _ (ap (ltb 16) (sym c.short_addressed.ensures) ∙ lt-ltb 16 _ c.if-short_addressed-gt-MAX_SHORT_ADDRESSED.true))
 
 pub returns : goal.returns
 unfolding scan_over with_scan
@@ -41,6 +43,6 @@ returns c =
     let few : ltb 16 n ≡ false = ap (ltb 16) (sym c.short_addressed.ensures) ∙ le-ltb 16 _ c.if-short_addressed-gt-MAX_SHORT_ADDRESSED.false in
     let made = c.neighbor_table_from-self.ensures ∙ ap table_of (neighbors-all (descriptors_of l) (ltb-false 16 n few)) in
     c.scan_heard.ensures ∙ ap (λ (t : NeighborTable). scan_heard c.args.purpose (with_table t c.args.self)) made
-    ∙ pick-false (ltb 16 n) _ _ few
-    ∙ pick-false (ltb 27 l.count) _ _ (le-ltb 27 l.count c.if-list-gt-MAX_PAN_DESCRIPTOR_SIZE.false)
-    ∙ sym (ap (λ (o : Result PanDescriptorList MacError). scan_over o c.args.purpose c.args.self) c.in-Ok.is)
+    ∙ sym (ap (λ (o : Result PanDescriptorList MacError). scan_over o c.args.purpose c.args.self) c.in-Ok.is
+    ∙ cond-false (ltb 27 l.count) _ _ (le-ltb 27 l.count c.if-list-gt-MAX_PAN_DESCRIPTOR_SIZE.false)
+    ∙ cond-false (ltb 16 n) _ _ few)
