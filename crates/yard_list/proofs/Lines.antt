@@ -1,5 +1,5 @@
 -- Laws of the lines that are read. Assumes nothing.
-use Prim.Native.Nat.{ℕ, suc, ◌+◌, ◌≤◌}
+use Prim.Native.Nat.{ℕ, suc, ◌+◌, ◌<◌, ◌≤◌}
 use mathlib.Core.Path.{◌≡◌, refl, sym, ap, ◌∙◌}
 use mathlib.Core.Bool.{Bool, true, false, cond, false≢true, ◌&&◌}
 use mathlib.Core.List.{List, [], ◌∷◌, ◌++◌, append_assoc, append-nil}
@@ -7,7 +7,7 @@ use native.Mathlib.Numerals.{unary_clauses}
 use native.Mathlib.Omega.{arith}
 use borrow.Author.Tests.{eqb-true, leb-true}
 use lib.Dec.{eqb, leb}
-use lib.ListN.{length, take, length-append}
+use lib.ListN.{length, take, get_or, length-append}
 use Rattle.std.specs.List.{list_all, zip, prefix_len, enumerate_from, fold}
 use Rattle.std.proofs.lemmas.List.Folds.{length-prefix_len}
 use Rattle.nib.specs.Neighbors.{table_of, pushed}
@@ -15,9 +15,10 @@ use Rattle.nib.specs.declared.NwkNeighbor.{NwkNeighbor}
 use Rattle.nib.specs.declared.NeighborTable.{NeighborTable}
 use Rattle.nib.proofs.Tables.{push-of}
 use Rattle.text.specs.Text.{parts, fields}
+use Rattle.text.proofs.Numbers.{hex-below, decimal-most}
 use Rattle.text.proofs.Parts.{parts-some}
 use Rattle.yard_list.specs.declared.Form.{Form}
-use Rattle.yard_list.specs.YardList.{fits, request_forms, entry_forms, all_fit, is_good, good_from, entry_of, entries_in}
+use Rattle.yard_list.specs.YardList.{fits, request_forms, entry_forms, all_fit, is_good, good_from, hex_at, byte_at, entry_of, entries_in}
 
 -- other than as many fields as forms do not fit
 pub fit_long : (ms : List Form) (fs : List (List ℕ)) → (length fs ≡ length ms → ⊥) → all_fit ms fs ≡ false
@@ -46,6 +47,13 @@ good-prefix k ls = length-prefix_len (λ p. is_good p.0 p.1) (enumerate_from k l
     counted k (l ∷ ls) =
         let e : 1 + prefix_len (λ p. is_good p.0 p.1) (enumerate_from (suc k) ls) ≡ suc (good_from (suc k) ls) = omega (arith, counted (suc k) ls) in
         simp unary_clauses (ap (λ (n : ℕ). cond (is_good k l) n 0) e)
+
+-- how great the numbers of fields are at most
+pub byte_most : (fs : List (List ℕ)) (k : ℕ) → byte_at fs k ≤ 255
+byte_most fs k = decimal-most 255 (get_or fs k [])
+
+pub short_below : (fs : List (List ℕ)) (k : ℕ) → hex_at 4 fs k < 65536
+short_below fs k = hex-below 4 (get_or fs k [])
 
 good-within : (k : ℕ) (l : List ℕ) → is_good k l ≡ true → k ≤ 16
 unfolding is_good

@@ -117,6 +117,7 @@ fn hex_at(line: &[u8], digits: usize, k: usize) -> u64
 }
 
 // The number of 16 bits in field k.
+#[tactic(auto, using(crate::proofs::Lines::short_below))]
 fn short_at(line: &[u8], k: usize) -> u16
     ensures { result ≡ hex_at 4 (fields line.now) k }
 {
@@ -124,6 +125,7 @@ fn short_at(line: &[u8], k: usize) -> u16
 }
 
 // The decimal number in field k.
+#[tactic(auto, using(crate::proofs::Lines::byte_most))]
 fn byte_at(line: &[u8], k: usize) -> u8
     ensures { result ≡ byte_at (fields line.now) k }
 {
