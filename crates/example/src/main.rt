@@ -182,8 +182,7 @@ fn tell(rt: &HostRuntime, answer: Answer) -> Result<(), Failed> {
 }
 
 // Carries requests out until the operation has come to its end, and answers the state then.
-fn settle(rt: &HostRuntime, first: Answer, near_is_on: bool) -> Result<State, Failed> {
-    let mut answer = first;
+fn settle(rt: &HostRuntime, mut answer: Answer, near_is_on: bool) -> Result<State, Failed> {
     for _ in 0..u64::MAX {
         tell(rt, answer)?;
         let Step::Ask(request) = answer.step else {
@@ -219,63 +218,39 @@ fn blank() -> State {
     State::new(nib, 41)
 }
 
-// What happens to the plug: its owner starts an operation or takes the status, or the near router is switched off.
-#[derive(Clone, Copy)]
-enum Event {
-    Discovery,
-    Join,
-    Send,
-    TakeStatus,
-    Rejoin,
-    NearIsSwitchedOff,
+// Sends data to the coordinator, and answers the state then.
+fn send(rt: &HostRuntime, state: State, near_is_on: bool) -> Result<State, Failed> {
+    say(rt, b"send\n")?;
+    settle(rt, state.send_data(ShortAddress(0), true), near_is_on)
 }
 
-const DAY: [Event; 10] = [
-    Event::Discovery,
-    Event::Join,
-    Event::Send,
-    Event::NearIsSwitchedOff,
-    Event::Send,
-    Event::Send,
-    Event::Send,
-    Event::TakeStatus,
-    Event::Rejoin,
-    Event::Send,
-];
+// Goes through the day. With the near router off the third transmission that fails is one too many: the parent is lost, and the plug rejoins by the far router.
+fn live(rt: &HostRuntime, state: State) -> Result<(), Failed> {
+    let near_is_on = true;
+    say(rt, b"discovery\n")?;
+    let state = settle(rt, state.start_discovery(CHANNELS), near_is_on)?;
+    say(rt, b"join\n")?;
+    let state = settle(
+        rt,
+        state.join(request(RejoinNetwork::Association)),
+        near_is_on,
+    )?;
+    let state = send(rt, state, near_is_on)?;
 
-fn name(event: Event) -> &'static [u8] {
-    match event {
-        Event::Discovery => b"discovery\n",
-        Event::Join => b"join\n",
-        Event::Send => b"send\n",
-        Event::TakeStatus => b"status\n",
-        Event::Rejoin => b"rejoin\n",
-        Event::NearIsSwitchedOff => b"the near router is switched off\n",
-    }
-}
-
-// What the owner's call answers; the near router, which is no call of his, has none.
-fn start(state: State, event: Event) -> Option<Answer> {
-    match event {
-        Event::Discovery => Some(state.start_discovery(CHANNELS)),
-        Event::Join => Some(state.join(request(RejoinNetwork::Association))),
-        Event::Send => Some(state.send_data(ShortAddress(0), true)),
-        Event::TakeStatus => Some(state.take_nwk_status_indication()),
-        Event::Rejoin => Some(state.join(request(RejoinNetwork::NwkRejoin))),
-        Event::NearIsSwitchedOff => None,
-    }
-}
-
-// Goes through the day.
-fn live(rt: &HostRuntime, mut state: State) -> Result<(), Failed> {
-    let mut near_is_on = true;
-    for event in DAY {
-        say(rt, name(event))?;
-        match start(state, event) {
-            Some(answer) => state = settle(rt, answer, near_is_on)?,
-            None => near_is_on = false,
-        }
-    }
+    let near_is_on = false;
+    say(rt, b"the near router is switched off\n")?;
+    let state = send(rt, state, near_is_on)?;
+    let state = send(rt, state, near_is_on)?;
+    let state = send(rt, state, near_is_on)?;
+    say(rt, b"status\n")?;
+    let state = settle(rt, state.take_nwk_status_indication(), near_is_on)?;
+    say(rt, b"rejoin\n")?;
+    let state = settle(
+        rt,
+        state.join(request(RejoinNetwork::NwkRejoin)),
+        near_is_on,
+    )?;
+    send(rt, state, near_is_on)?;
     Ok(())
 }
 

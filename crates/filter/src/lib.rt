@@ -59,12 +59,9 @@ fn has_word<R: Env>(rt: &R, i: usize) -> bool {
 pub fn word_count<R: Env>(rt: &R) -> usize
     ensures { 1 ≤ result }
 {
-    for i in 1..usize::MAX {
-        if !has_word(rt, i) {
-            return i;
-        }
-    }
-    usize::MAX
+    (1..usize::MAX)
+        .find(|i| !has_word(rt, *i))
+        .unwrap_or(usize::MAX)
 }
 
 // Prints the usage if the program has an argument, and answers whether it has: then there is nothing to read. The first of the words that it was started with

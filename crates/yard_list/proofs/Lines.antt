@@ -2,23 +2,23 @@
 use Prim.Native.Nat.{ℕ, suc, ◌+◌, ◌<◌, ◌≤◌}
 use mathlib.Core.Path.{◌≡◌, refl, sym, ap, ◌∙◌}
 use mathlib.Core.Bool.{Bool, true, false, cond, false≢true, ◌&&◌}
-use mathlib.Core.List.{List, [], ◌∷◌, map-append}
-use native.Mathlib.Numerals.{add-one}
+use mathlib.Core.List.{List, [], ◌∷◌, ◌++◌, append_assoc, append-nil}
+use native.Mathlib.Numerals.{unary_clauses}
 use native.Mathlib.Omega.{arith}
 use borrow.Author.Tests.{eqb-true, leb-true}
 use lib.Dec.{eqb, leb}
-use lib.ListN.{length, take, drop, get_or, length-map}
-use lib.Seq.{drop-cons, length-take-le}
-use Rattle.std.specs.List.{list_all, zip}
-use Rattle.std.proofs.lemmas.List.{take_more}
+use lib.ListN.{length, take, get_or, length-append}
+use Rattle.std.specs.List.{list_all, zip, prefix_len, enumerate_from, fold}
+use Rattle.std.proofs.lemmas.List.Folds.{length-prefix_len}
 use Rattle.nib.specs.Neighbors.{table_of, pushed}
 use Rattle.nib.specs.declared.NwkNeighbor.{NwkNeighbor}
 use Rattle.nib.specs.declared.NeighborTable.{NeighborTable}
 use Rattle.nib.proofs.Tables.{push-of}
 use Rattle.text.specs.Text.{parts, fields}
+use Rattle.text.proofs.Numbers.{hex-below, decimal-most}
 use Rattle.text.proofs.Parts.{parts-some}
 use Rattle.yard_list.specs.declared.Form.{Form}
-use Rattle.yard_list.specs.YardList.{fits, request_forms, entry_forms, all_fit, is_good, good_from, entry_of, entries_in}
+use Rattle.yard_list.specs.YardList.{fits, request_forms, entry_forms, all_fit, is_good, good_from, hex_at, byte_at, entry_of, entries_in}
 
 -- other than as many fields as forms do not fit
 pub fit_long : (ms : List Form) (fs : List (List ℕ)) → (length fs ≡ length ms → ⊥) → all_fit ms fs ≡ false
@@ -38,13 +38,22 @@ fit_each [] (f ∷ fs) h = let x : ⊥ = omega (arith, h) in absurd x
 fit_each (m ∷ ms) [] h = let x : ⊥ = omega (arith, h) in absurd x
 fit_each (m ∷ ms) (f ∷ fs) h = ap (λ (b : Bool). fits m f && b) (fit_each ms fs (omega (arith, h)))
 
--- a loop over the lines: what the one at k says
-module _ (ls : List (List ℕ)) (k : ℕ) (h : k < length ls) where
-  pub good-stops : is_good k (get_or ls k []) ≡ false → good_from k (drop k ls) ≡ 0
-  good-stops e = rw (drop-cons ls k [] h, e)
+-- how many lines are good, in std's words
+pub good-prefix : (k : ℕ) (ls : List (List ℕ)) → length (take (prefix_len (λ p. is_good p.0 p.1) (enumerate_from k ls)) (enumerate_from k ls)) ≡ good_from k ls
+good-prefix k ls = length-prefix_len (λ p. is_good p.0 p.1) (enumerate_from k ls) ∙ counted k ls
+  where
+    counted : (k : ℕ) (ls : List (List ℕ)) → prefix_len (λ p. is_good p.0 p.1) (enumerate_from k ls) ≡ good_from k ls
+    counted k [] = refl
+    counted k (l ∷ ls) =
+        let e : 1 + prefix_len (λ p. is_good p.0 p.1) (enumerate_from (suc k) ls) ≡ suc (good_from (suc k) ls) = omega (arith, counted (suc k) ls) in
+        simp unary_clauses (ap (λ (n : ℕ). cond (is_good k l) n 0) e)
 
-  pub good-on : is_good k (get_or ls k []) ≡ true → good_from k (drop k ls) ≡ suc (good_from (k + 1) (drop (k + 1) ls))
-  good-on e = rw (add-one, drop-cons ls k [] h, e)
+-- how great the numbers of fields are at most
+pub byte_most : (fs : List (List ℕ)) (k : ℕ) → byte_at fs k ≤ 255
+byte_most fs k = decimal-most 255 (get_or fs k [])
+
+pub short_below : (fs : List (List ℕ)) (k : ℕ) → hex_at 4 fs k < 65536
+short_below fs k = hex-below 4 (get_or fs k [])
 
 good-within : (k : ℕ) (l : List ℕ) → is_good k l ≡ true → k ≤ 16
 unfolding is_good
@@ -68,11 +77,11 @@ good_few k (l ∷ ls) h = go (is_good k l) refl (λ w. good_few (suc k) ls w)
     go true e r = let w = good-within k l e in omega (arith, r (omega arith))
     go false e r = omega arith
 
--- a loop that reads the entries of lines: one more
-pub table-next : (ls : List (List ℕ)) (i : ℕ) (t : NeighborTable) (e : NwkNeighbor) → i < length ls → i < 16 → t ≡ table_of (entries_in (take i ls)) → e ≡ entry_of (fields (get_or ls i [])) → pushed t e ≡ table_of (entries_in (take (i + 1) ls))
-table-next ls i t e h w p q =
-    let f : List (List ℕ) → List NwkNeighbor = entries_in in
-    let n : length (f (take i ls)) ≡ i = length-map (take i ls) (λ l. entry_of (fields l)) ∙ length-take-le i ls (omega arith) in
-    (λ j. pushed (p j) (q j))
-    ∙ push-of (f (take i ls)) (entry_of (fields (get_or ls i []))) (omega (arith, n))
-    ∙ ap table_of (sym (ap f (take_more ls i [] h) ∙ map-append (λ l. entry_of (fields l)) (take i ls) (get_or ls i [] ∷ [])))
+-- the entries of lines put behind those of a table
+pub table-of : (es : List NwkNeighbor) (ls : List (List ℕ)) → length es + length ls ≤ 16 → fold (λ t l. pushed t (entry_of (fields l))) (table_of es) ls ≡ table_of (es ++ entries_in ls)
+table-of es [] h = ap table_of (sym (append-nil es))
+table-of es (l ∷ ls) h =
+    let e = entry_of (fields l) in
+    ap (λ (t : NeighborTable). fold (λ t l. pushed t (entry_of (fields l))) t ls) (push-of es e (omega arith))
+    ∙ table-of (es ++ (e ∷ [])) ls (omega (arith, length-append es (e ∷ [])))
+    ∙ ap table_of (append_assoc es (e ∷ []) (entries_in ls))

@@ -22,9 +22,9 @@ use Rattle.nib.specs.declared.NwkNeighbor.{NwkNeighbor}
 use Rattle.candidates.proofs.Laws.{few, below}
 use Rattle.text.specs.Text.{parts, fields, decimal_text}
 use Rattle.std.proofs.lemmas.Bool.{and_parts}
-use Rattle.text.proofs.Numbers.{decimal-long, decimal-short, decimal-most}
+use Rattle.text.proofs.Numbers.{decimal-long, decimal-short}
 use Rattle.yard_list.specs.YardList.{good_from, hex_at, byte_at, flag_at, entry_of, entries_in, chosen, row_of, rows_from, header, list_text, bad_text, ended_lines, unended, yard_text}
-use Rattle.yard_list.proofs.Lines.{good_few}
+use Rattle.yard_list.proofs.Lines.{good_few, byte_most}
 
 module _ (es : List NwkNeighbor) where
   -- one candidate more at the end
@@ -74,7 +74,7 @@ list-is (suc n) (x ∷ xs) l t c h k o p q =
 small_at : (ns : List (List ℕ)) (i : ℕ) → ((get_or (entries_in ns) i blank).logical_channel ≤ 255) × ((get_or (entries_in ns) i blank).depth ≤ 255)
 unfolding entry_of
 small_at [] i = (zero-le, zero-le)
-small_at (l ∷ ls) zero = (decimal-most 255 (get_or (fields l) 3 []), decimal-most 255 (get_or (fields l) 4 []))
+small_at (l ∷ ls) zero = (byte_most (fields l) 3, byte_most (fields l) 4)
 small_at (l ∷ ls) (suc i) = small_at ls i
 
 three : (n : ℕ) → n ≤ 255 → length (decimal_text n) ≤ 3

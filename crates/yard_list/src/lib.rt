@@ -99,15 +99,14 @@ fn is_good(line: &[u8], k: usize) -> bool
 
 // How many of the first `ended` lines are good, up to the first that is not.
 fn good_lines(input: &[u8], ended: usize) -> usize
-    requires { ended ≤ length (parts 10 input.now) }
     ensures { result ≡ good_from 0 (take ended (parts 10 input.now)) }
 {
-    for k in 0..ended {
-        if !is_good(text::part(input, b'\n', k), k) {
-            return k;
-        }
-    }
-    ended
+    input
+        .split(|b| *b == b'\n')
+        .take(ended)
+        .enumerate()
+        .take_while(|(k, line)| is_good(line, *k))
+        .count()
 }
 
 // The hexadecimal number in field k.
@@ -118,6 +117,7 @@ fn hex_at(line: &[u8], digits: usize, k: usize) -> u64
 }
 
 // The number of 16 bits in field k.
+#[tactic(auto, using(crate::proofs::Lines::short_below))]
 fn short_at(line: &[u8], k: usize) -> u16
     ensures { result ≡ hex_at 4 (fields line.now) k }
 {
@@ -125,6 +125,7 @@ fn short_at(line: &[u8], k: usize) -> u16
 }
 
 // The decimal number in field k.
+#[tactic(auto, using(crate::proofs::Lines::byte_most))]
 fn byte_at(line: &[u8], k: usize) -> u8
     ensures { result ≡ byte_at (fields line.now) k }
 {
@@ -180,14 +181,16 @@ fn read_entry(line: &[u8]) -> NwkNeighbor
 
 // The table of the entries of `count` lines after the first.
 fn read_table(input: &[u8], count: usize) -> NeighborTable
-    requires { (count ≤ 16) × (count < length (parts 10 input.now)) }
+    requires { count ≤ 16 }
     ensures { result ≡ table_of (entries_in (take count (drop 1 (parts 10 input.now)))) }
 {
-    let mut table = NeighborTable::new();
-    for i in 0..count {
-        table = table.push(read_entry(text::part(input, b'\n', i + 1)));
-    }
-    table
+    input
+        .split(|b| *b == b'\n')
+        .skip(1)
+        .take(count)
+        .fold(NeighborTable::new(), |table, line| {
+            table.push(read_entry(line))
+        })
 }
 
 // The candidates of a request among the entries of a table.

@@ -1,20 +1,30 @@
 -- `read_table` meets its contract. Assumes nothing.
 use native.Mathlib.Omega.{arith}
-use Prim.Native.Nat.{ℕ, ◌+◌}
-use mathlib.Core.Path.{◌≡◌, sym, ap, ◌∙◌}
-use mathlib.Core.List.{List, []}
-use lib.ListN.{drop, get_or, length-drop}
-use lib.Seq.{get_or-drop}
+use mathlib.Core.Path.{ap, ◌∙◌}
+use lib.ListN.{take, drop, length-take}
+use Rattle.std.proofs.Common.{[], eqb, rules}
+use borrow.Author.Tests.{tests}
+use Rattle.std.proofs.lemmas.Iterator.{YieldsList-from_take}
+use Rattle.std.proofs.lemmas.Iterator.Adapters.{YieldsList-from_skip}
+use Rattle.std.proofs.lemmas.Iterator.Consumers.{YieldsList-at, fold_from_yields_List}
+use Rattle.std.proofs.lemmas.Iterator.Splits.{YieldsList-from_slice_split}
+use Rattle.std.specs.List.{fold}
+use Rattle.nib.specs.Neighbors.{pushed}
+use Rattle.nib.specs.declared.NeighborTable.{NeighborTable}
 use Rattle.text.specs.Text.{parts, fields}
 use Rattle.yard_list.specs.YardList.{entry_of}
-use Rattle.yard_list.proofs.Lines.{table-next}
+use Rattle.yard_list.proofs.Lines.{table-of}
 use Rattle.yard_list.proofs.read_table.Goals as goal
 
-pub loop-i-preserved : goal.loop-i-preserved
-loop-i-preserved c =
-    let ls = parts 10 c.args.input.now in
-    let i = c.loop-i.i in
-    let o : i + 1 ≡ 1 + i = omega arith in
-    let g : get_or ls (i + 1) [] ≡ get_or (drop 1 ls) i [] = ap (λ (n : ℕ). get_or ls n []) o ∙ sym (get_or-drop 1 ls i []) in
-    let e = c.read_entry.ensures ∙ ap (λ (l : List ℕ). entry_of (fields l)) (c.part.ensures ∙ g) in
-    c.push-table.ensures ∙ table-next (drop 1 ls) i c.loop-i.table c.read_entry.result (omega (arith, length-drop 1 ls, c.requires.1)) (omega (arith, c.requires.0)) c.loop-i.invariant e
+pub returns : goal.returns
+returns c =
+    let ls = take c.args.count (drop 1 (parts 10 c.args.input.now)) in
+    fold_from_yields_List _ (λ t l. pushed t (entry_of (fields l))) _ _ c.fold.ensures.ran (
+    YieldsList-from_take c.args.count
+    (YieldsList-at c.take.ensures.source (YieldsList-from_skip 1
+    (YieldsList-at c.skip.ensures.source (YieldsList-from_slice_split _ (λ b. eqb b 10) c.args.input.now c.split.ensures.rest c.split.ensures.done c.split.ensures.closure (λ x b q k. search (rules, tests))))
+    c.skip.ensures.count))
+    c.take.ensures.count
+    ) (λ a x b q k. search (rules, tests))
+    ∙ ap (λ (t : NeighborTable). fold (λ t l. pushed t (entry_of (fields l))) t ls) c.new.ensures
+    ∙ table-of [] ls (omega (arith, c.requires, length-take c.args.count (drop 1 (parts 10 c.args.input.now))))
