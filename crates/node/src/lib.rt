@@ -452,6 +452,7 @@ impl State {
     fn scan_answer(self, outcome: Result<PanDescriptorList, MacError>) -> Answer
         ensures { result ≡ answer self (scan outcome) }
     {
+        // The other three outcomes have this shape too: each takes what is awaited out of its own variant of `Phase`, and a pattern can't be handed to a function.
         self.unless_bad(|| {
             let Phase::Scan(purpose) = self.control.operation.phase else {
                 return self.refuse(Refusal::NotAwaited);
