@@ -8,7 +8,6 @@ use lib.ListN.{length, get_or}
 use Rattle.std.specs.List.{zip, enumerate_from}
 use Rattle.std.proofs.lemmas.List.FromFn.{length-enumerate_from, get_or-enumerate_from}
 use Rattle.std.proofs.lemmas.Slice.Zip.{length-zip}
-use Rattle.std.proofs.lemmas.Slice.Zip.{length-zip}
 
 -- what stands at one place of both, as a loop over them with their places has it
 module _ {A B C : Type 0} (f : A → B → C) where
@@ -18,7 +17,7 @@ module _ {A B C : Type 0} (f : A → B → C) where
   zip-long (x ∷ xs) [] h = let e : ⊥ = omega (arith, h) in absurd e
   zip-long (x ∷ xs) (y ∷ ys) h = ap suc (zip-long xs ys (omega (arith, h)))
 
-  pub zip-at : (xs : List A) (ys : List B) (i : ℕ) (p : B × A) (c : C) → i < length (zip ys xs) → get_or (zip_with f xs ys) i c ≡ f (get_or (zip ys xs) i p).1 (get_or (zip ys xs) i p).0
+  zip-at : (xs : List A) (ys : List B) (i : ℕ) (p : B × A) (c : C) → i < length (zip ys xs) → get_or (zip_with f xs ys) i c ≡ f (get_or (zip ys xs) i p).1 (get_or (zip ys xs) i p).0
   unfolding zip_with
   zip-at [] [] i p c h = absurd (not-suc-le-zero h)
   zip-at [] (y ∷ ys) i p c h = absurd (not-suc-le-zero h)

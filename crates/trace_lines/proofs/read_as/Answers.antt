@@ -28,6 +28,7 @@ returns-then-part_count-letters c =
     let v = c.letters-letters.ensures.value in
     other-count c.args.kind (fields c.args.line.now) (parts-some 9 c.args.line.now) (λ e. c.if-part_count-letters.true (omega (arith, c.part_count.ensures, ap length v, e)))
 
+-- as many further fields as letters, and those are few
 many : (c : After-into_iter-i-iterator) → length (fields c.args.line.now) ≡ length (letters_of c.args.kind) + 1
 many c = omega (arith, c.part_count.ensures, ap length c.letters-letters.ensures.value)
 
@@ -42,12 +43,14 @@ road c =
     (YieldsList-from_skip 1 (YieldsList-from_slice_split _ (λ b. eqb b 9) c.args.line.now (search rules) (search rules) (search rules) (λ x b q k. search (rules, tests))) (search rules))
     (YieldsList-from_slice (letters_of c.args.kind) (search rules))) (search rules)
 
+-- the next field is no number
 pub returns-in_err-numbers : goal.returns-in_err-numbers
 returns-in_err-numbers c =
     let a = (goal.at.returns-in_err-numbers c).After-into_iter-i-iterator in
     let t = turn c.args.kind (fields c.args.line.now) (road a) c.loop-i.yielded c.loop-i.i-iterator c.loop-i.yielded_by _ c.next.new.self _ c.in-Some.is c.next.ensures.steps in
     c.from_residual.ensures ∙ no_number c.args.kind (fields c.args.line.now) (many a) _ _ _ c.loop-i.invariant t.0 (t.2 ∙ sym c.read_number.ensures ∙ c.in_err-numbers.was)
 
+-- one field more
 pub loop-i-preserved : goal.loop-i-preserved
 loop-i-preserved c =
     let a = (goal.at.loop-i-preserved c).After-into_iter-i-iterator in
