@@ -2,9 +2,7 @@
 // The numbers are 0 to 100,000, each power of ten with the number before and behind it, and 4,294,967,295.
 #![tactic(auto)]
 
-use filter::Failed;
-
-const NAME: [u8; 8] = *b"decimals";
+use filter::{Edges, Failed};
 
 // Above 100,000: the powers of ten, each with the number before and behind it, and the greatest number of 32 bits.
 const NUMBERS: [u32; 14] = [
@@ -71,11 +69,11 @@ fn is_alike(n: u32) -> bool {
 }
 
 // Prints a number as by division, on a line of its own.
-fn print_divided(rt: &HostRuntime, n: u32) -> Result<(), Failed> {
+fn print_divided(edges: &Edges<HostRuntime>, n: u32) -> Result<(), Failed> {
     let mut digits = [0u8; 20];
     let count = io::decimal(u64::from(n), &mut digits);
-    filter::write(rt, &NAME, &digits[..count])?;
-    filter::write(rt, &NAME, b"\n")
+    edges.write(&digits[..count])?;
+    edges.write(b"\n")
 }
 
 // How many numbers were written, and how many of them otherwise than by division.
@@ -87,28 +85,32 @@ struct Tally {
 
 impl Tally {
     // Writes a number; one that is written otherwise is printed as by division.
-    fn try_number(&mut self, rt: &HostRuntime, n: u32) {
+    fn try_number(&mut self, edges: &Edges<HostRuntime>, n: u32) {
         self.written = self.written.wrapping_add(1);
         if !is_alike(n) {
-            let _ = print_divided(rt, n);
+            let _ = print_divided(edges, n);
             self.otherwise = self.otherwise.wrapping_add(1);
         }
     }
 
-    fn print(&self, rt: &HostRuntime) {
+    fn print(&self, edges: &Edges<HostRuntime>) {
         let mut line = [b' '; 48];
         text::write_decimal_right(&mut line, 0, self.written, 10);
         text::write(&mut line, 10, b" numbers, written otherwise");
         text::write_decimal_right(&mut line, 37, self.otherwise, 10);
         line[47] = b'\n';
-        let _ = filter::write(rt, &NAME, &line);
+        let _ = edges.write(&line);
     }
 }
 
 fn main(rt: HostRuntime) {
+    let edges = Edges {
+        rt: &rt,
+        program: b"decimals",
+    };
     let mut tally = Tally::default();
     for n in (0..100_001).chain(NUMBERS) {
-        tally.try_number(&rt, n);
+        tally.try_number(&edges, n);
     }
-    tally.print(&rt);
+    tally.print(&edges);
 }

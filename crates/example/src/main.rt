@@ -6,7 +6,7 @@ use discovery::mlme::{
     Address, MAX_PAN_DESCRIPTOR_SIZE, PanDescriptor, PanDescriptorList, StackProfile,
     SuperframeSpecification, ZigbeeBeacon,
 };
-use filter::Failed;
+use filter::{Edges, Failed};
 use join::association::AssociationResponse;
 use management::frame::{ReceivedFrame, Source};
 use management::{
@@ -106,85 +106,85 @@ fn carry_out(state: State, request: RadioRequest, near_is_on: bool) -> Answer {
     }
 }
 
-// What is printed. What can't be printed ends the program.
+// What is printed goes through `edges`, which stand for standard output under the program's name. What can't be printed ends the program.
 
-fn say(rt: &HostRuntime, text: &[u8]) -> Result<(), Failed> {
-    filter::write(rt, b"example", text)
-}
-
-fn say_of(rt: &HostRuntime, text: &[u8], address: ShortAddress) -> Result<(), Failed> {
+fn say_of(edges: &Edges<HostRuntime>, text: &[u8], address: ShortAddress) -> Result<(), Failed> {
     let mut digits = [0u8; 4];
     text::write_hex(&mut digits, 0, u64::from(address.0), 4);
-    say(rt, text)?;
-    say(rt, &digits)?;
-    say(rt, b"\n")
+    edges.write(text)?;
+    edges.write(&digits)?;
+    edges.write(b"\n")
 }
 
-fn tell_request(rt: &HostRuntime, request: RadioRequest) -> Result<(), Failed> {
+fn tell_request(edges: &Edges<HostRuntime>, request: RadioRequest) -> Result<(), Failed> {
     match request {
-        RadioRequest::Scan(_) => say(rt, b"  radio: scan\n"),
-        RadioRequest::Associate(a) => say_of(rt, b"  radio: associate with ", a.address),
-        RadioRequest::Transmit(t) => say_of(rt, b"  radio: transmit to ", t.address),
-        RadioRequest::Poll(_, router) => say_of(rt, b"  radio: poll ", router),
-        RadioRequest::Receive => say(rt, b"  radio: receive\n"),
+        RadioRequest::Scan(_) => edges.write(b"  radio: scan\n"),
+        RadioRequest::Associate(a) => say_of(edges, b"  radio: associate with ", a.address),
+        RadioRequest::Transmit(t) => say_of(edges, b"  radio: transmit to ", t.address),
+        RadioRequest::Poll(_, router) => say_of(edges, b"  radio: poll ", router),
+        RadioRequest::Receive => edges.write(b"  radio: receive\n"),
     }
 }
 
-fn tell_joined(rt: &HostRuntime, confirm: NlmeJoinConfirm) -> Result<(), Failed> {
+fn tell_joined(edges: &Edges<HostRuntime>, confirm: NlmeJoinConfirm) -> Result<(), Failed> {
     match confirm.status {
-        NlmeJoinStatus::Success => say_of(rt, b"  joined as ", confirm.network_address),
-        _ => say(rt, b"  not joined\n"),
+        NlmeJoinStatus::Success => say_of(edges, b"  joined as ", confirm.network_address),
+        _ => edges.write(b"  not joined\n"),
     }
 }
 
-fn tell_sent(rt: &HostRuntime, answer: SendAnswer) -> Result<(), Failed> {
+fn tell_sent(edges: &Edges<HostRuntime>, answer: SendAnswer) -> Result<(), Failed> {
     match answer {
-        SendAnswer::SendOk => say(rt, b"  sent\n"),
+        SendAnswer::SendOk => edges.write(b"  sent\n"),
         SendAnswer::SendParentLinkFailure => {
-            say(rt, b"  not sent: the link to the parent has failed\n")
+            edges.write(b"  not sent: the link to the parent has failed\n")
         }
-        _ => say(rt, b"  not sent\n"),
+        _ => edges.write(b"  not sent\n"),
     }
 }
 
 fn tell_status(
-    rt: &HostRuntime,
+    edges: &Edges<HostRuntime>,
     indication: Option<NlmeNwkStatusIndication>,
 ) -> Result<(), Failed> {
     match indication {
-        None => say(rt, b"  nothing\n"),
-        Some(indication) => say_of(rt, b"  the parent is lost: ", indication.network_address),
+        None => edges.write(b"  nothing\n"),
+        Some(indication) => say_of(edges, b"  the parent is lost: ", indication.network_address),
     }
 }
 
-fn tell_step(rt: &HostRuntime, step: Step) -> Result<(), Failed> {
+fn tell_step(edges: &Edges<HostRuntime>, step: Step) -> Result<(), Failed> {
     match step {
-        Step::Refused(_) => say(rt, b"  turned down\n"),
-        Step::Ask(request) => tell_request(rt, request),
-        Step::Discovered => say(rt, b"  networks were heard\n"),
-        Step::Joined(confirm) => tell_joined(rt, confirm),
-        Step::Sent(answer) => tell_sent(rt, answer),
-        Step::StatusTaken(indication) => tell_status(rt, indication),
-        _ => say(rt, b"  something that this plug does not ask for\n"),
+        Step::Refused(_) => edges.write(b"  turned down\n"),
+        Step::Ask(request) => tell_request(edges, request),
+        Step::Discovered => edges.write(b"  networks were heard\n"),
+        Step::Joined(confirm) => tell_joined(edges, confirm),
+        Step::Sent(answer) => tell_sent(edges, answer),
+        Step::StatusTaken(indication) => tell_status(edges, indication),
+        _ => edges.write(b"  something that this plug does not ask for\n"),
     }
 }
 
 // An owner who keeps more than this state (routes, groups, keys) resets that where `answer.reset` says so: the device has left its network for good.
 
 // The note, which the radio obeys before it is asked; then the request, or what the operation came to.
-fn tell(rt: &HostRuntime, answer: Answer) -> Result<(), Failed> {
+fn tell(edges: &Edges<HostRuntime>, answer: Answer) -> Result<(), Failed> {
     match answer.note {
         None => {}
-        Some(Note::SetChannel(_)) => say(rt, b"  radio: set channel\n")?,
-        Some(Note::SetAddress(own)) => say_of(rt, b"  radio: set address ", own)?,
+        Some(Note::SetChannel(_)) => edges.write(b"  radio: set channel\n")?,
+        Some(Note::SetAddress(own)) => say_of(edges, b"  radio: set address ", own)?,
     }
-    tell_step(rt, answer.step)
+    tell_step(edges, answer.step)
 }
 
 // Carries requests out until the operation has come to its end, and answers the state then.
-fn settle(rt: &HostRuntime, mut answer: Answer, near_is_on: bool) -> Result<State, Failed> {
+fn settle(
+    edges: &Edges<HostRuntime>,
+    mut answer: Answer,
+    near_is_on: bool,
+) -> Result<State, Failed> {
     for _ in 0..u64::MAX {
-        tell(rt, answer)?;
+        tell(edges, answer)?;
         let Step::Ask(request) = answer.step else {
             break;
         };
@@ -219,62 +219,59 @@ fn blank() -> State {
 }
 
 // Sends data to the coordinator, and answers the state then.
-fn send(rt: &HostRuntime, state: State, near_is_on: bool) -> Result<State, Failed> {
-    say(rt, b"send\n")?;
-    settle(rt, state.send_data(ShortAddress(0), true), near_is_on)
+fn send(edges: &Edges<HostRuntime>, state: State, near_is_on: bool) -> Result<State, Failed> {
+    edges.write(b"send\n")?;
+    settle(edges, state.send_data(ShortAddress(0), true), near_is_on)
 }
 
 // Goes through the day. With the near router off the third transmission that fails is one too many: the parent is lost, and the plug rejoins by the far router.
-fn live(rt: &HostRuntime, state: State) -> Result<(), Failed> {
+fn live(edges: &Edges<HostRuntime>, state: State) -> Result<(), Failed> {
     let near_is_on = true;
-    say(rt, b"discovery\n")?;
-    let state = settle(rt, state.start_discovery(CHANNELS), near_is_on)?;
-    say(rt, b"join\n")?;
+    edges.write(b"discovery\n")?;
+    let state = settle(edges, state.start_discovery(CHANNELS), near_is_on)?;
+    edges.write(b"join\n")?;
     let state = settle(
-        rt,
+        edges,
         state.join(request(RejoinNetwork::Association)),
         near_is_on,
     )?;
-    let state = send(rt, state, near_is_on)?;
+    let state = send(edges, state, near_is_on)?;
 
     let near_is_on = false;
-    say(rt, b"the near router is switched off\n")?;
-    let state = send(rt, state, near_is_on)?;
-    let state = send(rt, state, near_is_on)?;
-    let state = send(rt, state, near_is_on)?;
-    say(rt, b"status\n")?;
-    let state = settle(rt, state.take_nwk_status_indication(), near_is_on)?;
-    say(rt, b"rejoin\n")?;
+    edges.write(b"the near router is switched off\n")?;
+    let state = send(edges, state, near_is_on)?;
+    let state = send(edges, state, near_is_on)?;
+    let state = send(edges, state, near_is_on)?;
+    edges.write(b"status\n")?;
+    let state = settle(edges, state.take_nwk_status_indication(), near_is_on)?;
+    edges.write(b"rejoin\n")?;
     let state = settle(
-        rt,
+        edges,
         state.join(request(RejoinNetwork::NwkRejoin)),
         near_is_on,
     )?;
-    send(rt, state, near_is_on)?;
+    send(edges, state, near_is_on)?;
     Ok(())
 }
 
-// Prints the usage if there is an argument, and answers whether it did.
-fn usage_printed(rt: &HostRuntime) -> bool {
-    filter::print_usage(
-        rt,
-        b"example",
-        filter::word_count(rt),
-        b"Usage: example\n\
-        \n\
-        Shows how the library is used: a plug joins, loses its parent and rejoins over\n\
-        a scripted radio. Its code, crates/example/src/main.rt, is there to be read.\n\
-        \n\
-        It reads nothing. It prints each operation that the plug's owner starts, what\n\
-        the radio is asked, and what the operation came to.\n\
-        \n\
-        docs/NODETRACE.md has the calls one by one. Any argument prints this text.\n",
-    )
-}
+// What is printed if there is an argument.
+const USAGE: &[u8] = b"Usage: example\n\
+    \n\
+    Shows how the library is used: a plug joins, loses its parent and rejoins over\n\
+    a scripted radio. Its code, crates/example/src/main.rt, is there to be read.\n\
+    \n\
+    It reads nothing. It prints each operation that the plug's owner starts, what\n\
+    the radio is asked, and what the operation came to.\n\
+    \n\
+    docs/NODETRACE.md has the calls one by one. Any argument prints this text.\n";
 
 fn main(rt: HostRuntime) {
-    if usage_printed(&rt) {
+    let edges = Edges {
+        rt: &rt,
+        program: b"example",
+    };
+    if edges.print_usage(edges.word_count(), USAGE) {
         return;
     }
-    let _ = live(&rt, blank());
+    let _ = live(&edges, blank());
 }

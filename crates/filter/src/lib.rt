@@ -1,5 +1,5 @@
 // What every program does at its edges: an argument asks for the usage, standard input is read, standard output is written. What fails is told of on standard
-// error, as PROGRAM: standard input: REASON. `rt` is the system, as `main` is given it.
+// error, as PROGRAM: standard input: REASON.
 #![tactic(auto)]
 
 ghost use Rattle.std.specs.Prelude.{◌≡◌, ◌≤◌};
@@ -21,64 +21,74 @@ fn in_words(text: &str) -> &str {
         .map_or(text, |(words, _)| words)
 }
 
-// The line on standard error.
-fn say<R: Eprint, D: Display + Drop>(rt: &R, program: &[u8], edge: &str, reason: D) {
-    let name = program.escape_ascii();
-    let _ = eprintln!(rt; "{name}: {edge}: {reason}");
+// The edges of a program: the system, as `main` is given it, and the program's name.
+#[derive(Drop)]
+pub struct Edges<'a, R> {
+    pub rt: &'a R,
+    pub program: &'a [u8],
 }
 
-// Tells why a call failed on one of the program's edges, and answers that it failed.
-fn told<R: Eprint + Alloc>(rt: &R, program: &[u8], edge: &str, error: io::Error) -> Failed {
-    match error.to_string(rt.alloc()) {
-        Ok(text) => say(rt, program, edge, in_words(text.as_str())),
-        Err(_) => say(rt, program, edge, error),
-    }
-    Failed
-}
-
-// Writes all of these bytes to standard output. Of a pipe that nobody reads any more nothing is told.
-pub fn write<R: Print + Eprint + Alloc>(rt: &R, program: &[u8], bytes: &[u8]) -> Result<(), Failed>
-    ensures { Written bytes.now result }
-{
-    if bytes.is_empty() {
-        return Ok(());
-    }
-    match rt.write_all(bytes) {
-        Ok(()) => Ok(()),
-        Err(error) if error.kind() == ErrorKind::BrokenPipe => Err(Failed),
-        Err(error) => Err(told(rt, program, "standard output", error)),
+impl<R: Eprint> Edges<'_, R> {
+    // The line on standard error.
+    fn say<D: Display + Drop>(&self, edge: &str, reason: D) {
+        let name = self.program.escape_ascii();
+        let _ = eprintln!(self.rt; "{name}: {edge}: {reason}");
     }
 }
 
-// Whether the program was started with a word at this place; at 0 stands its own name.
-fn has_word<R: Env>(rt: &R, i: usize) -> bool {
-    !matches!(rt.arg(i, &mut [0u8; 1]), Err(FillError::NotPresent))
-}
-
-// How many words the program was started with: its own name, and its arguments.
-pub fn word_count<R: Env>(rt: &R) -> usize
-    ensures { 1 ≤ result }
-{
-    (1..usize::MAX)
-        .find(|i| !has_word(rt, *i))
-        .unwrap_or(usize::MAX)
-}
-
-// Prints the usage if the program has an argument, and answers whether it has: then there is nothing to read. The first of the words that it was started with
-// (`word_count`) is its own name.
-pub fn print_usage<R: Print + Eprint + Alloc>(
-    rt: &R,
-    program: &[u8],
-    words: usize,
-    usage: &[u8],
-) -> bool
-    ensures { result ≡ has_argument words }
-{
-    if words <= 1 {
-        return false;
+impl<R: Eprint + Alloc> Edges<'_, R> {
+    // Tells why a call failed on one of the program's edges, and answers that it failed.
+    fn told(&self, edge: &str, error: io::Error) -> Failed {
+        match error.to_string(self.rt.alloc()) {
+            Ok(text) => self.say(edge, in_words(text.as_str())),
+            Err(_) => self.say(edge, error),
+        }
+        Failed
     }
-    let _ = write(rt, program, usage);
-    true
+}
+
+impl<R: Print + Eprint + Alloc> Edges<'_, R> {
+    // Writes all of these bytes to standard output. Of a pipe that nobody reads any more nothing is told.
+    pub fn write(&self, bytes: &[u8]) -> Result<(), Failed>
+        ensures { Written bytes.now result }
+    {
+        if bytes.is_empty() {
+            return Ok(());
+        }
+        match self.rt.write_all(bytes) {
+            Ok(()) => Ok(()),
+            Err(error) if error.kind() == ErrorKind::BrokenPipe => Err(Failed),
+            Err(error) => Err(self.told("standard output", error)),
+        }
+    }
+
+    // Prints the usage if the program has an argument, and answers whether it has: then there is nothing to read. The first of the words that it was started
+    // with (`word_count`) is its own name.
+    pub fn print_usage(&self, words: usize, usage: &[u8]) -> bool
+        ensures { result ≡ has_argument words }
+    {
+        if words <= 1 {
+            return false;
+        }
+        let _ = self.write(usage);
+        true
+    }
+}
+
+impl<R: Env> Edges<'_, R> {
+    // Whether the program was started with a word at this place; at 0 stands its own name.
+    fn has_word(&self, i: usize) -> bool {
+        !matches!(self.rt.arg(i, &mut [0u8; 1]), Err(FillError::NotPresent))
+    }
+
+    // How many words the program was started with: its own name, and its arguments.
+    pub fn word_count(&self) -> usize
+        ensures { 1 ≤ result }
+    {
+        (1..usize::MAX)
+            .find(|i| !self.has_word(*i))
+            .unwrap_or(usize::MAX)
+    }
 }
 
 // Whether a read that gave this was interrupted before a byte came.
@@ -99,34 +109,28 @@ fn read_once<I: Read>(input: &mut I, buf: &mut [u8]) -> io::Result<usize>
     input.read(buf)
 }
 
-// Reads what there is on standard input, once there is some: so many bytes at the start of the buffer, none where the input is over.
-pub fn read<R: io::Input + Eprint + Alloc>(
-    rt: &R,
-    program: &[u8],
-    buf: &mut [u8],
-) -> Result<usize, Failed>
-    ensures { Within result buf.new }
-{
-    read_once(&mut rt.reader(), buf).map_err(|error| told(rt, program, "standard input", error))
-}
-
-// Reads standard input until the buffer is full or the input is over: so many bytes at the start of the buffer.
-pub fn read_full<R: io::Input + Eprint + Alloc>(
-    rt: &R,
-    program: &[u8],
-    buf: &mut [u8],
-) -> Result<usize, Failed>
-    ensures { Within result buf.new }
-{
-    let mut done: usize = 0;
-    while done < buf.len() {
-        let n = read(rt, program, &mut buf[done..])?;
-        if n == 0 {
-            break;
-        }
-        done += n;
+impl<R: io::Input + Eprint + Alloc> Edges<'_, R> {
+    // Reads what there is on standard input, once there is some: so many bytes at the start of the buffer, none where the input is over.
+    pub fn read(&self, buf: &mut [u8]) -> Result<usize, Failed>
+        ensures { Within result buf.new }
+    {
+        read_once(&mut self.rt.reader(), buf).map_err(|error| self.told("standard input", error))
     }
-    Ok(done)
+
+    // Reads standard input until the buffer is full or the input is over: so many bytes at the start of the buffer.
+    pub fn read_full(&self, buf: &mut [u8]) -> Result<usize, Failed>
+        ensures { Within result buf.new }
+    {
+        let mut done: usize = 0;
+        while done < buf.len() {
+            let n = self.read(&mut buf[done..])?;
+            if n == 0 {
+                break;
+            }
+            done += n;
+        }
+        Ok(done)
+    }
 }
 
 #[cfg(test)]

@@ -22,6 +22,7 @@ fn kept_with(size: usize, kept: usize, more: usize) -> usize
 
 // Takes one line's bytes out of a piece, from a place on: those up to its next line feed, or to its end. They are put behind the first `kept` bytes of the
 // lent buffer, as far as there is room; the rest of the buffer stays. The line feed is taken, but not kept.
+// Buffer and count are two parameters, in place of a `Vec`: nothing is allocated, and a line of any length is answered with the bytes that the program lends.
 pub fn take_line(line: &mut [u8], kept: usize, piece: &[u8], at: usize) -> Taken
     ensures value { result ≡ line_taken (length line.old) kept piece.now at }
     ensures line_after { line.new ≡ line_after line.old kept piece.now at }

@@ -2,100 +2,92 @@
 // an association.
 #![tactic(auto)]
 
-use filter::Failed;
+use filter::{Edges, Failed};
 use management::NlmeJoinStatus;
 use nib::CapabilityInformation;
 
-// Prints the usage if there is an argument, and answers whether it did.
-fn usage_printed(rt: &HostRuntime) -> bool {
-    filter::print_usage(
-        rt,
-        b"tables",
-        filter::word_count(rt),
-        b"Usage: tables\n\
-        \n\
-        It reads nothing, and prints the published tables: a header, then a line for\n\
-        each byte from 0 to 255, with fields parted by tabs.\n\
-        \n\
-        byte                    the byte, in decimal\n\
-        cost                    its link cost as an LQI\n\
-        router .. allocate      its bits as capabilities, 0 or 1\n\
-        seconds, milliseconds   the timeout that it stands for as an index, or -\n\
-        association             what it means as the status of an association\n\
-        \n\
-        docs/SCOPE.md has the rules behind them. Any argument prints this text.\n",
-    )
-}
+// What is printed if there is an argument.
+const USAGE: &[u8] = b"Usage: tables\n\
+    \n\
+    It reads nothing, and prints the published tables: a header, then a line for\n\
+    each byte from 0 to 255, with fields parted by tabs.\n\
+    \n\
+    byte                    the byte, in decimal\n\
+    cost                    its link cost as an LQI\n\
+    router .. allocate      its bits as capabilities, 0 or 1\n\
+    seconds, milliseconds   the timeout that it stands for as an index, or -\n\
+    association             what it means as the status of an association\n\
+    \n\
+    docs/SCOPE.md has the rules behind them. Any argument prints this text.\n";
 
-fn put(rt: &HostRuntime, bytes: &[u8]) -> Result<(), Failed> {
-    filter::write(rt, b"tables", bytes)
-}
-
-fn print(rt: &HostRuntime, n: u32) -> Result<(), Failed> {
+fn print(edges: &Edges<HostRuntime>, n: u32) -> Result<(), Failed> {
     let mut digits = [0u8; 10];
     let count = text::write_decimal(&mut digits, 0, n);
-    put(rt, &digits[..count])
+    edges.write(&digits[..count])
 }
 
-fn number(rt: &HostRuntime, n: u8) -> Result<(), Failed> {
-    put(rt, b"\t")?;
-    print(rt, u32::from(n))
+fn number(edges: &Edges<HostRuntime>, n: u8) -> Result<(), Failed> {
+    edges.write(b"\t")?;
+    print(edges, u32::from(n))
 }
 
-fn flag(rt: &HostRuntime, b: bool) -> Result<(), Failed> {
-    number(rt, u8::from(b))
+fn flag(edges: &Edges<HostRuntime>, b: bool) -> Result<(), Failed> {
+    number(edges, u8::from(b))
 }
 
-fn period(rt: &HostRuntime, p: Option<u32>) -> Result<(), Failed> {
-    put(rt, b"\t")?;
+fn period(edges: &Edges<HostRuntime>, p: Option<u32>) -> Result<(), Failed> {
+    edges.write(b"\t")?;
     match p {
-        None => put(rt, b"-"),
-        Some(n) => print(rt, n),
+        None => edges.write(b"-"),
+        Some(n) => print(edges, n),
     }
 }
 
-fn association(rt: &HostRuntime, status: u8) -> Result<(), Failed> {
+fn association(edges: &Edges<HostRuntime>, status: u8) -> Result<(), Failed> {
     if status == 0 {
-        return put(rt, b"\tSuccess");
+        return edges.write(b"\tSuccess");
     }
     match join::failed_status(status) {
-        NlmeJoinStatus::PanAtCapacity => put(rt, b"\tPanAtCapacity"),
-        NlmeJoinStatus::PanAccessDenied => put(rt, b"\tPanAccessDenied"),
-        NlmeJoinStatus::MacError => put(rt, b"\tMacError"),
-        _ => put(rt, b"\tanother"),
+        NlmeJoinStatus::PanAtCapacity => edges.write(b"\tPanAtCapacity"),
+        NlmeJoinStatus::PanAccessDenied => edges.write(b"\tPanAccessDenied"),
+        NlmeJoinStatus::MacError => edges.write(b"\tMacError"),
+        _ => edges.write(b"\tanother"),
     }
 }
 
-fn row(rt: &HostRuntime, byte: u8) -> Result<(), Failed> {
+fn row(edges: &Edges<HostRuntime>, byte: u8) -> Result<(), Failed> {
     let capability = CapabilityInformation(byte);
-    print(rt, u32::from(byte))?;
-    number(rt, nib::link_cost_from_lqi(byte))?;
-    flag(rt, capability.device_type())?;
-    flag(rt, capability.power_source())?;
-    flag(rt, capability.receiver_on_when_idle())?;
-    flag(rt, capability.security_capability())?;
-    flag(rt, capability.allocate_address())?;
-    period(rt, supervision::timeout_seconds(byte))?;
-    period(rt, supervision::negotiated_timeout_ms(byte))?;
-    association(rt, byte)?;
-    put(rt, b"\n")
+    print(edges, u32::from(byte))?;
+    number(edges, nib::link_cost_from_lqi(byte))?;
+    flag(edges, capability.device_type())?;
+    flag(edges, capability.power_source())?;
+    flag(edges, capability.receiver_on_when_idle())?;
+    flag(edges, capability.security_capability())?;
+    flag(edges, capability.allocate_address())?;
+    period(edges, supervision::timeout_seconds(byte))?;
+    period(edges, supervision::negotiated_timeout_ms(byte))?;
+    association(edges, byte)?;
+    edges.write(b"\n")
 }
 
 // Prints the tables, up to what can't be printed.
-fn print_tables(rt: &HostRuntime) -> Result<(), Failed> {
-    put(
-        rt,
+fn print_tables(edges: &Edges<HostRuntime>) -> Result<(), Failed> {
+    edges.write(
         b"byte\tcost\trouter\tmains\treceiver\tsecurity\tallocate\tseconds\tmilliseconds\tassociation\n",
     )?;
     for byte in 0..=255 {
-        row(rt, byte)?;
+        row(edges, byte)?;
     }
     Ok(())
 }
 
 fn main(rt: HostRuntime) {
-    if usage_printed(&rt) {
+    let edges = Edges {
+        rt: &rt,
+        program: b"tables",
+    };
+    if edges.print_usage(edges.word_count(), USAGE) {
         return;
     }
-    let _ = print_tables(&rt);
+    let _ = print_tables(&edges);
 }

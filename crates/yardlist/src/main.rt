@@ -1,43 +1,42 @@
 // Reads a request and neighbour entries from standard input and prints the candidates for a parent.
 #![tactic(auto)]
 
-// Prints the usage if there is an argument, and answers whether it did.
-fn usage_printed(rt: &HostRuntime) -> bool {
-    filter::print_usage(
-        rt,
-        b"yardlist",
-        filter::word_count(rt),
-        b"Usage: yardlist < YARD\n\
-        \n\
-        Tells which routers of a yard a plug would try as its parent, and in which\n\
-        order.\n\
-        \n\
-        It reads standard input: a line that begins with the word request, then at\n\
-        most 16 lines that begin with n, one for each neighbour that was heard. Fields\n\
-        are parted by one tab, and each line is ended by a line feed.\n\
-        \n\
-        It prints a header, then a line for each candidate, in the order in which they\n\
-        are tried: place, index, address, channel, depth. If a line is not of the\n\
-        format, it prints that line's number and nothing else: bad, a tab, the number.\n\
-        \n\
-        docs/YARDLIST.md has the format and an example. Any argument prints this text.\n",
-    )
-}
+use filter::Edges;
 
-fn print_list(rt: &HostRuntime, input: &[u8]) {
+// What is printed if there is an argument.
+const USAGE: &[u8] = b"Usage: yardlist < YARD\n\
+    \n\
+    Tells which routers of a yard a plug would try as its parent, and in which\n\
+    order.\n\
+    \n\
+    It reads standard input: a line that begins with the word request, then at\n\
+    most 16 lines that begin with n, one for each neighbour that was heard. Fields\n\
+    are parted by one tab, and each line is ended by a line feed.\n\
+    \n\
+    It prints a header, then a line for each candidate, in the order in which they\n\
+    are tried: place, index, address, channel, depth. If a line is not of the\n\
+    format, it prints that line's number and nothing else: bad, a tab, the number.\n\
+    \n\
+    docs/YARDLIST.md has the format and an example. Any argument prints this text.\n";
+
+fn print_list(edges: &Edges<HostRuntime>, input: &[u8]) {
     let mut out = [0u8; 512];
     let length = yard_list::yard_list(input, &mut out);
-    let _ = filter::write(rt, b"yardlist", &out[..length]);
+    let _ = edges.write(&out[..length]);
 }
 
 // The first 1,024 bytes are enough: `cut-is-enough` of yard_list says that the list of a longer input is theirs.
 fn main(rt: HostRuntime) {
-    if usage_printed(&rt) {
+    let edges = Edges {
+        rt: &rt,
+        program: b"yardlist",
+    };
+    if edges.print_usage(edges.word_count(), USAGE) {
         return;
     }
     let mut input = [0u8; 1024];
-    let Ok(n) = filter::read_full(&rt, b"yardlist", &mut input) else {
+    let Ok(n) = edges.read_full(&mut input) else {
         return;
     };
-    print_list(&rt, &input[..n]);
+    print_list(&edges, &input[..n]);
 }

@@ -2,16 +2,11 @@
 // A case is a line with its name, and then what is read. Its name and its answer are printed.
 #![tactic(auto)]
 
-use filter::Failed;
+use filter::{Edges, Failed};
 
-const NAME: [u8; 14] = *b"yardlist_cases";
-
-// Prints, under the program's own name.
-fn print(rt: &HostRuntime, bytes: &[u8]) -> Result<(), Failed> {
-    filter::write(rt, &NAME, bytes)
-}
-
-fn run(rt: &HostRuntime, case: &[u8]) -> Result<(), Failed> {
+// Prints a case's name and its answer. `nodetrace_cases` goes through its cases alike from here on: one for both would be a crate more, which is handed a
+// closure for the case, for a dozen lines.
+fn run(edges: &Edges<HostRuntime>, case: &[u8]) -> Result<(), Failed> {
     let name = text::part(case, b'\n', 0);
     let n = name.len() + 1;
     if case.len() < n {
@@ -19,22 +14,26 @@ fn run(rt: &HostRuntime, case: &[u8]) -> Result<(), Failed> {
     }
     let mut out = [0u8; 512];
     let length = yard_list::yard_list(&case[n..], &mut out);
-    print(rt, b"# ")?;
-    print(rt, name)?;
-    print(rt, b"\n")?;
-    print(rt, &out[..length])
+    edges.write(b"# ")?;
+    edges.write(name)?;
+    edges.write(b"\n")?;
+    edges.write(&out[..length])
 }
 
 // Runs the cases, up to what can't be printed.
-fn run_all(rt: &HostRuntime) -> Result<(), Failed> {
+fn run_all(edges: &Edges<HostRuntime>) -> Result<(), Failed> {
     let mut space = [0u8; 32768];
-    let n = filter::read_full(rt, &NAME, &mut space)?;
+    let n = edges.read_full(&mut space)?;
     for case in space[..n].split(|b| *b == 0x1e) {
-        run(rt, case)?;
+        run(edges, case)?;
     }
     Ok(())
 }
 
 fn main(rt: HostRuntime) {
-    let _ = run_all(&rt);
+    let edges = Edges {
+        rt: &rt,
+        program: b"yardlist_cases",
+    };
+    let _ = run_all(&edges);
 }

@@ -5,5 +5,5 @@ use Rattle.nodetrace.proofs.answer.Goals as goal
 pub slice_bounds-out-end : goal.slice_bounds-out-end
 slice_bounds-out-end c = (printed-prefix _ _ _ _ _ c.answer_line-next.ensures.0 c.answer_line-next.ensures.1).0
 
-pub slice_bounds-write-end-2 : goal.slice_bounds-write-end-2
-slice_bounds-write-end-2 c = (printed-prefix _ _ _ _ _ c.answer_line-next.ensures.0 c.answer_line-next.ensures.1).1
+pub slice_bounds-write-end : goal.slice_bounds-write-end
+slice_bounds-write-end c = (printed-prefix _ _ _ _ _ c.answer_line-next.ensures.0 c.answer_line-next.ensures.1).1

@@ -7,5 +7,5 @@ use Rattle.tables.proofs.print.Goals as goal
 pub slice_bounds-digits-end : goal.slice_bounds-digits-end
 slice_bounds-digits-end c = omega (arith, decimal-long c.args.n)
 
-pub slice_bounds-put-end : goal.slice_bounds-put-end
-slice_bounds-put-end c = sym (length-take-le _ _ (omega (arith, decimal-long c.args.n)))
+pub slice_bounds-write-end : goal.slice_bounds-write-end
+slice_bounds-write-end c = sym (length-take-le _ _ (omega (arith, decimal-long c.args.n)))

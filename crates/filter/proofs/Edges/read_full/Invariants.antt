@@ -1,6 +1,6 @@
 -- What was read lies within the buffer, and each turn leaves less of it.
 use Rattle.std.proofs.Common.{length, ◌-◌, ◌≤◌}
-use Rattle.filter.proofs.read_full.Given as goal
+use Rattle.filter.proofs.Edges.read_full.Given as goal
 
 abbrev pub invariant-loop-done : goal.invariant-loop-done
 invariant-loop-done g l = l.done ≤ length l.buf
