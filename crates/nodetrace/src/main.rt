@@ -3,7 +3,6 @@
 
 use filter::{Edges, Failed};
 use trace::Run;
-use trace_calls::Session;
 
 // What is printed if there is an argument.
 const USAGE: &[u8] = b"Usage: nodetrace < TRACE\n\
@@ -50,12 +49,7 @@ struct Reading {
 
 impl Reading {
     fn new() -> Reading {
-        let run = Run {
-            session: Session::new(),
-            number: 0,
-            good: true,
-            length: 0,
-        };
+        let run = Run::new();
         Reading {
             run,
             line: [0; 512],

@@ -4,7 +4,6 @@
 
 use filter::{Edges, Failed};
 use trace::Run;
-use trace_calls::Session;
 
 // The case is over: a line was bad, or its answer could not be printed.
 #[derive(Drop)]
@@ -27,12 +26,7 @@ fn answer(edges: &Edges<HostRuntime>, run: Run, line: &[u8]) -> Result<Run, Over
 // Answers the lines of a case; the first is its name. What is not ended at its end is bad, and so is a beacon that is missing.
 // The empty line, which is bad too, stands for either.
 fn answer_lines(edges: &Edges<HostRuntime>, case: &[u8]) -> Result<(), Over> {
-    let mut run = Run {
-        session: Session::new(),
-        number: 0,
-        good: true,
-        length: 0,
-    };
+    let mut run = Run::new();
     let mut lines = case.split(|b| *b == b'\n');
     let not_ended = lines.next_back().unwrap_or(b"");
     for line in lines.skip(1) {
