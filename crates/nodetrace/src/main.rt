@@ -49,9 +49,8 @@ struct Reading {
 
 impl Reading {
     fn new() -> Reading {
-        let run = Run::new();
         Reading {
-            run,
+            run: Run::new(),
             line: [0; 512],
             kept: 0,
         }
