@@ -42,13 +42,7 @@ module _ {A : Type 0} where
   All-get_d P (x ∷ xs) zero d a h = a.0
   All-get_d P (x ∷ xs) (suc i) d a h = All-get_d P xs i d a.1 (le_of_suc-le-suc h)
 
-  -- the place of a key, from what is left of the list
-  pub place_here : (k : A → ℕ) (n : ℕ) (l : List A) (i : ℕ) (d : A) → i < length l → n < k (get_or l i d) → place_by k n (drop i l) ≡ 0
-  place_here k n l i d h lt = rw (drop-cons l i d h, lt-ltb _ _ lt)
-
-  pub place-on : (k : A → ℕ) (n : ℕ) (l : List A) (i : ℕ) (d : A) → i < length l → k (get_or l i d) ≤ n → place_by k n (drop i l) ≡ suc (place_by k n (drop (i + 1) l))
-  place-on k n l i d h le = rw (add-one, drop-cons l i d h, le-ltb _ _ le)
-
+  -- the place of a key
   pub place-le : (k : A → ℕ) (n : ℕ) (l : List A) → place_by k n l ≤ length l
   place-le k n [] = zero-le
   place-le k n (y ∷ ys) = cond-le (ltb n (k y)) (place-le k n ys)

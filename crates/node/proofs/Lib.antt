@@ -1,2 +1,3 @@
 -- The laws of `node`.
+pub mod TurnedDown
 pub mod Writes

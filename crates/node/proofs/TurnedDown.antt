@@ -1,0 +1,44 @@
+-- Laws that hold `outcome` to its sentence: an outcome of a kind that is not awaited is turned down by 2. Assumes nothing.
+use mathlib.Core.Path.{◌≡◌, refl}
+use Rattle.operation.specs.Operation.{scan_for, association_for, transmission_for, reception_for}
+use Rattle.operation.specs.declared.Purpose.{Purpose}
+use Rattle.operation.specs.declared.ScanFor.{ScanFor}
+use Rattle.operation.specs.declared.TransmissionFor.{TransmissionFor}
+use Rattle.operation.specs.declared.Phase.{Phase}
+use Rattle.operation.specs.declared.Phase.TheVariants.{Idle, Scan, Association, Transmission, Reception}
+use Rattle.operation.specs.declared.Refusal.TheVariants.{NotAwaited}
+use Rattle.node.specs.declared.State.{State}
+use Rattle.node.specs.declared.Answer.{Answer}
+use Rattle.node.specs.Refusals.{refuse, outcome}
+
+pub no-scan : (p : Phase) (f : ScanFor → State → Answer) (s : State) → ((u : ScanFor) → p ≡ Scan u → ⊥) → refuse NotAwaited s ≡ outcome (scan_for p) f s
+unfolding outcome
+no-scan Idle f s h = refl
+no-scan (Scan u) f s h = absurd (h u refl)
+no-scan Association f s h = refl
+no-scan (Transmission u) f s h = refl
+no-scan (Reception u) f s h = refl
+
+pub no-association : (p : Phase) (f : Unit {0} → State → Answer) (s : State) → (p ≡ Association → ⊥) → refuse NotAwaited s ≡ outcome (association_for p) f s
+unfolding outcome
+no-association Idle f s h = refl
+no-association (Scan u) f s h = refl
+no-association Association f s h = absurd (h refl)
+no-association (Transmission u) f s h = refl
+no-association (Reception u) f s h = refl
+
+pub no-transmission : (p : Phase) (f : TransmissionFor → State → Answer) (s : State) → ((u : TransmissionFor) → p ≡ Transmission u → ⊥) → refuse NotAwaited s ≡ outcome (transmission_for p) f s
+unfolding outcome
+no-transmission Idle f s h = refl
+no-transmission (Scan u) f s h = refl
+no-transmission Association f s h = refl
+no-transmission (Transmission u) f s h = absurd (h u refl)
+no-transmission (Reception u) f s h = refl
+
+pub no-reception : (p : Phase) (f : Purpose → State → Answer) (s : State) → ((u : Purpose) → p ≡ Reception u → ⊥) → refuse NotAwaited s ≡ outcome (reception_for p) f s
+unfolding outcome
+no-reception Idle f s h = refl
+no-reception (Scan u) f s h = refl
+no-reception Association f s h = refl
+no-reception (Transmission u) f s h = refl
+no-reception (Reception u) f s h = absurd (h u refl)
