@@ -121,7 +121,7 @@ fn write_row(part: &mut [u8], row: &[u8; 48])
 }
 
 // Writes the page of a table at the start of a lent buffer, and says whether that was done: one shorter than a page stays as it is.
-// Each row is lent its own part of the buffer.
+// Each row is lent its own part of the buffer. A `bool`, and no `Result`: one thing alone can be wrong, and who calls has a number of its own for it.
 pub fn write_page(page: &mut [u8], table: NeighborTable) -> bool
     ensures { (result ≡ not (too_short (length page.old))) × (page.new ≡ written (entries_of table) page.old) }
 {

@@ -28,7 +28,7 @@ pub fn field(line: &[u8], k: usize) -> &[u8]
     part(line, b'\t', k)
 }
 
-// The value of a digit, and 16 for any other byte.
+// The value of a digit, and 16 for any other byte. No `Option`: one test against the base turns down both what is no digit and a digit that is too great.
 #[tactic(auto, unfolding(crate::specs::Text::digit_of))]
 fn digit(b: u8) -> u64
     ensures { result ≡ digit_of b }
