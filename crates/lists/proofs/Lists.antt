@@ -8,7 +8,6 @@ use native.Mathlib.Omega.{arith}
 use lib.ListN.{length, take, drop, get_or, set, length-map, length-append, length-take, length-drop, drop_of_length-le}
 use lib.Seq.{take_all, drop-cons, take_at, drop_at, set_at, append_snoc, take-append-le, drop-append-le}
 use lib.Dec.{ltb}
-use borrow.Author.Tests.{lt-ltb, le-ltb}
 use native.Mathlib.Nat.{le_of_suc-le-suc, not-suc-le-zero}
 use Rattle.lists.specs.Lists.{select, insert_by, over, All}
 use Rattle.lists.specs.Private.{place_by, insert_at}
