@@ -670,8 +670,7 @@ fn print_nlme(out: &mut Writer, nlme: Nlme)
     ensures value { out.new ≡ with_text out.old (lines_text (nlme_lines nlme)) }
     ensures few { length (nlme_lines nlme) ≤ 21 }
 {
-    let failures = nlme.transmit_failures;
-    print_each(out, lists::in_use(&failures.pairs, failures.count as usize));
+    print_each(out, nlme.transmit_failures.used());
     print_slots(out, nlme.signals);
 }
 

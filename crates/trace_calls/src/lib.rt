@@ -73,7 +73,7 @@ pub struct Turn {
 
 // A state that a `node` line begins.
 
-// A `node` line of zeros. `Nib::new` gives other values.
+// A `node` line of zeros, written out: a `Default` of zeros for `Nib` would stand beside `Nib::new`, which gives other values.
 fn no_node() -> NodeFields
     ensures { result ≡ no_node }
 {

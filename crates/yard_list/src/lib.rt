@@ -12,9 +12,7 @@ ghost use Rattle.yard_list.specs.Private.{Named};
 ghost use Rattle.yard_list.specs.YardList.{fits, all_fit, is_good, good_from, hex_at, byte_at, flag_at, entry_of, entries_in, chosen, cell, row_of, rows_from, list_text, bad_text, yard_text};
 
 use candidates::CandidateList;
-use nib::{
-    ExtendedPanId, IeeeAddress, MAX_NEIGBOUR_TABLE, NeighborTable, NwkNeighbor, PanId, ShortAddress,
-};
+use nib::{ExtendedPanId, MAX_NEIGBOUR_TABLE, NeighborTable, NwkNeighbor, PanId, ShortAddress};
 use text::writer::Writer;
 
 // How many entries a list has at most: as many as a neighbour table.
@@ -157,16 +155,10 @@ fn read_entry(line: &[u8]) -> NwkNeighbor
     let update_id = byte_at(line, 10);
     let pan = short_at(line, 11);
     NwkNeighbor {
-        extended_address: IeeeAddress(0),
         network_address: ShortAddress(address),
         device_type,
-        rx_on_when_idle: false,
-        end_device_configuration: 0,
         relationship: nib::relationship::NONE,
         lqi,
-        outgoing_cost: 0,
-        age: 0,
-        keepalive_received: false,
         extended_pan_id: ExtendedPanId(extended),
         logical_channel,
         depth,
@@ -176,6 +168,7 @@ fn read_entry(line: &[u8]) -> NwkNeighbor
         end_device_capacity,
         update_id,
         pan_id: PanId(pan),
+        ..NwkNeighbor::default()
     }
 }
 
