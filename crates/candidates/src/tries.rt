@@ -16,7 +16,7 @@ pub struct Candidates {
     pub taken: u8,
 }
 
-// The candidates for a parent in a table, none of them taken.
+// The candidates for a parent in a table, none of them taken. The values of a request are parameters, as in `select_candidates`.
 pub fn chosen(
     table: NeighborTable,
     stack_profile: u8,

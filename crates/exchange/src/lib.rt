@@ -38,6 +38,7 @@ fn data_frame(
 }
 
 // The start of a data send.
+// The control part and what was seen are parameters here and below, and no struct: they come from the state and the table, and are read one by one at once.
 #[tactic(auto, unfolding(crate::specs::Exchange::send_started))]
 pub fn start_send(
     control: Control,

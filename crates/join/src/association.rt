@@ -38,6 +38,7 @@ fn request_association(control: Control, clear: bool, entry: NwkNeighbor) -> Dec
 }
 
 // The start of a join whose candidates are chosen.
+// The control part and what was seen are parameters here and below, and no struct: they come from the state and the table, and are read one by one at once.
 #[tactic(auto, unfolding(crate::specs::Join::join_started, crate::specs::Join::associating))]
 pub fn start_join(
     control: Control,

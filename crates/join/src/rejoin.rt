@@ -131,6 +131,7 @@ fn begin_rejoin(control: Control, request: NlmeJoinRequest) -> Control
 }
 
 // The start of a rejoin.
+// The control part and what was seen are parameters here and below, and no struct: they come from the state and the table, and are read one by one at once.
 #[tactic(auto, unfolding(crate::specs::Rejoin::rejoin_started))]
 pub fn start_rejoin(
     control: Control,

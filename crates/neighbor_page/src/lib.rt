@@ -40,21 +40,12 @@ fn write_number(row: &mut Writer, n: u8, width: usize, end: u8)
     row.write(&[end]);
 }
 
-// Writes a column with an address or a PAN id, and the space behind it.
+// Writes a column with an address or an id in so many hexadecimal digits, and the space behind it.
 #[tactic(auto, using(text::proofs::Written::in_turn), unfolding(crate::specs::Private::hex_column))]
-fn write_short(row: &mut Writer, n: u16)
-    ensures { row.new ≡ with_text row.old (hex_column 4 n) }
+fn write_id(row: &mut Writer, n: u64, digits: usize)
+    ensures { row.new ≡ with_text row.old (hex_column (min digits 16) n) }
 {
-    row.write_hex(u64::from(n), 4);
-    row.write(b" ");
-}
-
-// Writes a column with an extended PAN id, and the space behind it.
-#[tactic(auto, using(text::proofs::Written::in_turn), unfolding(crate::specs::Private::hex_column))]
-fn write_extended(row: &mut Writer, n: u64)
-    ensures { row.new ≡ with_text row.old (hex_column 16 n) }
-{
-    row.write_hex(n, 16);
+    row.write_hex(n, digits);
     row.write(b" ");
 }
 
@@ -63,9 +54,9 @@ fn write_extended(row: &mut Writer, n: u64)
 fn write_ids(row: &mut Writer, e: &NwkNeighbor)
     ensures { row.new ≡ with_text row.old (hex_column 4 e.now.network_address.0 ++ (hex_column 16 e.now.extended_pan_id.0 ++ hex_column 4 e.now.pan_id.0)) }
 {
-    write_short(row, e.network_address.0);
-    write_extended(row, e.extended_pan_id.0);
-    write_short(row, e.pan_id.0);
+    write_id(row, u64::from(e.network_address.0), 4);
+    write_id(row, e.extended_pan_id.0, 16);
+    write_id(row, u64::from(e.pan_id.0), 4);
 }
 
 // Writes the row of an entry at an index of the table.

@@ -232,7 +232,8 @@ impl NeighborTable {
         self.used().get(index as usize).copied()
     }
 
-    // One entry more at the end, or none where the table is full: written in place, as a table is large to hand over.
+    // One entry more at the end, or none where the table is full: written in place, as a table is large to hand over. `TransmitFailures` has the like for its pairs:
+    // one for both would be handed the array and the count, and be no shorter.
     #[tactic(auto, unfolding(crate::specs::Neighbors::pushed))]
     pub fn add(&mut self, e: NwkNeighbor)
         ensures { self.new ≡ pushed self.old e }

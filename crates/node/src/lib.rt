@@ -199,7 +199,8 @@ impl State {
     }
 }
 
-// What a call looks at: the parent, the candidate being tried and the next one, each by its index in the table.
+// What a call looks at: the parent, the candidate being tried and the next one, each by its index in the table. Two lines each: one for all would be handed the
+// index, and be `seen_at`.
 impl State {
     #[tactic(auto, unfolding(candidates::specs::Tries::parent_in, nib::specs::NeighborTable::parent_of))]
     fn parent(self) -> Option<NwkNeighbor>

@@ -139,7 +139,7 @@ impl TransmitFailures {
         self.used().iter().position(|p| p.address == neighbor)
     }
 
-    // One pair more behind those in use.
+    // One pair more behind those in use, as `NeighborTable::add` has for entries: one for both would be handed the array and the count, and be no shorter.
     fn push(&mut self, p: TransmitFailure)
         requires { self.old.count < 16 }
         ensures { self.new ≡ record { pairs = set self.old.pairs self.old.count p; count = self.old.count + 1 } }

@@ -7,7 +7,7 @@ ghost use Rattle.text.specs.Text.{parts, fields, digit_of, number_from, decimal_
 
 pub mod writer;
 
-// Part k of a text that is parted by `sep`, from 0; empty where there is no such part.
+// Part k of a text that is parted by `sep`, from 0; empty where there is no such part. Text and place are two parameters: the place is a number in the call.
 pub fn part(s: &[u8], sep: u8, k: usize) -> &[u8]
     ensures { result.now ≡ get_or (parts sep s.now) k [] }
 {

@@ -375,7 +375,7 @@ fn print_data(out: &mut Writer, t: Transmission, h: DataHeader)
     )
 }
 
-// A command frame: its word, its header, and two fields that it carries.
+// A command frame: its word, its header, and two fields that it carries. The header is handed on beside the transmission that holds it: there a match found it.
 fn command_fields(
     t: Transmission,
     h: CommandHeader,

@@ -109,7 +109,7 @@ fn begun(node: NodeFields) -> State
     state
 }
 
-// One pair more behind those in use; a full record stays.
+// One pair more behind those in use; a full record stays. Not by the method of `TransmitFailures`, which is private and has room already.
 fn with_pair(mut failures: TransmitFailures, p: TransmitFailure) -> TransmitFailures
     ensures { result ≡ with_pair p failures }
 {

@@ -60,6 +60,7 @@ pub enum Call {
 }
 
 // Numbers of a line, each cut to its type: the fields of a line that was read fit their types. `stack_profile_of` alone cuts its parts itself.
+// The line and the place are two parameters, and each contract says how far a place may go: the place is a number that stands in the call.
 
 fn bits8(line: InputLine, k: usize) -> u8
     requires { k < 20 }
@@ -275,6 +276,7 @@ fn beacon_of(line: InputLine, coord_address: Address) -> PanDescriptor
     }
 }
 
+// One line, as `extended_sender` is over another variant.
 fn short_sender(line: InputLine) -> Address
     ensures { result ≡ Short (pan_id_at 2 line) (short 4 line) }
 {

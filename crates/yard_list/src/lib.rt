@@ -95,7 +95,8 @@ fn is_good(line: &[u8], k: usize) -> bool
     is_line(line, &ENTRY)
 }
 
-// How many of the first `ended` lines are good, up to the first that is not.
+// How many of the first `ended` lines are good, up to the first that is not. `input` and `ended` go together here and in two more, and no struct: `ended` is
+// counted once, where the three are called.
 fn good_lines(input: &[u8], ended: usize) -> usize
     ensures { result ≡ good_from 0 (take ended (parts 10 input.now)) }
 {
@@ -107,7 +108,7 @@ fn good_lines(input: &[u8], ended: usize) -> usize
         .count()
 }
 
-// The hexadecimal number in field k.
+// The hexadecimal number in field k. Line and place are two parameters here and below: the place is a number that stands in the call.
 fn hex_at(line: &[u8], digits: usize, k: usize) -> u64
     ensures { result ≡ hex_at digits (fields line.now) k }
 {
