@@ -17,6 +17,15 @@ LACKS = re.compile(r"can be named from here|has no field|not in scope|has no `|w
 TOP = os.path.dirname(os.path.dirname(os.path.realpath(__file__)))
 
 
+def beside():
+    """How many checks run side by side: as RT_JOBS says, or one for each processor, where 3 GB of memory are free for each."""
+    if os.environ.get("RT_JOBS", "").isdigit():
+        return max(1, int(os.environ["RT_JOBS"]))
+    with open("/proc/meminfo", encoding="ascii") as it:
+        free = int(re.search(r"MemAvailable:\s+(\d+)", it.read())[1])
+    return max(1, min(len(os.sched_getaffinity(0)), free // 3_000_000))
+
+
 class Bad(Exception):
     """An edit that cannot be carried out."""
 
@@ -119,6 +128,14 @@ def checked(folder, *flags):
 
 def is_proved(said):
     return bool(re.search(r"^logic=proved", said, re.M))
+
+
+def prove(crates):
+    """What is not proved, of these crates or of all: what edits are tried over. Of all, those that don't rest on one another are proved side by side."""
+    if crates:
+        return [it for it in crates if not is_proved(checked(os.path.join(TOP, "crates", it)))]
+    ran = subprocess.run(["rt", "all", "check", "--jobs", str(beside())], cwd=TOP, stdin=subprocess.DEVNULL, stdout=subprocess.PIPE, stderr=subprocess.STDOUT, encoding="utf-8", errors="replace")
+    return [ran.stdout[-2000:]] if ran.returncode else []
 
 
 def of(kind, crate="*"):

@@ -12,17 +12,19 @@ use nib::{CapabilityInformation, ExtendedPanId, NeighborTable};
 // The others are still to be tried.
 #[derive(Clone, Copy)]
 pub struct Candidates {
+    // the candidates that were chosen
     pub list: CandidateList,
+    // how many of them have been taken
     pub taken: u8,
 }
 
 // The candidates for a parent in a table, none of them taken. The values of a request are parameters, as in `select_candidates`.
-pub fn chosen(
+pub fn chosen_from(
     table: NeighborTable,
     stack_profile: u8,
-    require_permit_joining: bool,
     extended_pan_id: ExtendedPanId,
     capability_information: CapabilityInformation,
+    require_permit_joining: bool,
 ) -> Candidates
     ensures { result ≡ chosen_from (entries_of table) stack_profile require_permit_joining extended_pan_id.0 capability_information }
 {
@@ -37,7 +39,7 @@ pub fn chosen(
 }
 
 // The indexes from a place on.
-fn left(list: &CandidateList, from: u8) -> &[u8]
+fn tail(list: &CandidateList, from: u8) -> &[u8]
     ensures { result.now ≡ drop from (items_of list.now) }
 {
     list.used().get(from as usize..).unwrap_or(&[])
@@ -46,7 +48,7 @@ fn left(list: &CandidateList, from: u8) -> &[u8]
 // The index being tried in a table of `count` entries, `count` where there is none.
 // A number and no `Option`: at `count` the table has nothing to read or to change, so no caller tests which of the two it is.
 // `count` and `candidates` go together here and in three more, and no struct: callers have the two at hand, and would make the struct for this one call.
-pub fn tried_index(count: u8, candidates: Candidates) -> u8
+pub fn tried_index(candidates: Candidates, count: u8) -> u8
     ensures { result ≡ tried_index count candidates }
 {
     let taken = candidates.taken as usize;
@@ -69,10 +71,10 @@ fn first_below(indexes: &[u8], limit: u8) -> Option<u8>
 }
 
 // The next index to be tried in a table of `count` entries, `count` where there is none: those not below it are skipped. A number as above.
-pub fn next_index(count: u8, candidates: Candidates) -> u8
+pub fn next_index(candidates: Candidates, count: u8) -> u8
     ensures { result ≡ next_index count candidates }
 {
-    first_below(left(&candidates.list, candidates.taken), count).unwrap_or(count)
+    first_below(tail(&candidates.list, candidates.taken), count).unwrap_or(count)
 }
 
 // Whether an index is not below a limit.
@@ -83,11 +85,11 @@ fn any_past(indexes: &[u8], limit: u8) -> bool
 }
 
 // Whether an index being tried or still to be tried is not below a count.
-pub fn past_table(count: u8, candidates: Candidates) -> bool
+pub fn past_table(candidates: Candidates, count: u8) -> bool
     ensures { result ≡ past_table count candidates }
 {
     let from = candidates.taken.saturating_sub(1);
-    any_past(left(&candidates.list, from), count)
+    any_past(tail(&candidates.list, from), count)
 }
 
 // The place of the first index below a limit.
@@ -98,10 +100,10 @@ fn place_below(indexes: &[u8], limit: u8) -> Option<usize>
 }
 
 // The next candidate is taken, or all are where none is left.
-pub fn take_next(count: u8, candidates: Candidates) -> Candidates
+pub fn take_next(candidates: Candidates, count: u8) -> Candidates
     ensures { result ≡ taking count candidates }
 {
-    let to_try = left(&candidates.list, candidates.taken);
+    let to_try = tail(&candidates.list, candidates.taken);
     let taken = match place_below(to_try, count) {
         Some(skipped) => candidates.taken + skipped as u8 + 1,
         None => candidates.list.used().len() as u8,

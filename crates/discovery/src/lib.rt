@@ -25,27 +25,37 @@ use nib::{ExtendedPanId, NeighborTable, NwkNeighbor, PanId, ShortAddress};
 // What a discovery tells of one beacon.
 #[derive(Clone, Copy, Default)]
 pub struct NetworkDescriptor {
+    // the network
     pub extended_pan_id: ExtendedPanId,
+    // its PAN id
     pub pan_id: PanId,
+    // its update id
     pub update_id: u8,
+    // the channel of the beacon
     pub logical_channel: u8,
+    // its stack profile
     pub stack_profile: u8,
+    // its version of the protocol
     pub zigbee_version: u8,
+    // the beacon order of the superframe
     pub beacon_order: u8,
+    // the superframe order
     pub superframe_order: u8,
+    // whether the beacon's sender permits joining
     pub permit_joining: bool,
+    // whether that sender has room for a router
     pub router_capacity: bool,
+    // whether that sender has room for an end device
     pub end_device_capacity: bool,
 }
-
-// How many networks a confirm tells of at most: one for each descriptor of a scan.
-pub const MAX_NETWORK_DESCRIPTORS: u8 = MAX_PAN_DESCRIPTOR_SIZE as u8;
 
 // The confirm of a discovery: the first `count` descriptors are in use.
 // An array with a count, since there is no heap.
 #[derive(Clone, Copy)]
 pub struct NlmeNetworkDiscoveryConfirm {
+    // the descriptors, in the order of the scan
     pub network_descriptor: [NetworkDescriptor; MAX_PAN_DESCRIPTOR_SIZE],
+    // how many are in use
     pub count: u8,
 }
 
@@ -122,9 +132,9 @@ impl From<PanDescriptor> for NetworkDescriptor {
 }
 
 // The descriptors in use: all 27 where the count says more.
-fn in_use(list: &PanDescriptorList) -> &[PanDescriptor]
+fn descriptors_in_use(list: &PanDescriptorList) -> &[PanDescriptor]
     ensures descriptors { result.now ≡ descriptors_of list.now }
-    ensures few { length result.now ≤ 27 }
+    ensures few { length result.now ≤ MAX_PAN_DESCRIPTOR_SIZE }
 {
     lists::in_use(&list.descriptors, list.count)
 }
@@ -145,7 +155,10 @@ fn is_short(pd: &PanDescriptor) -> bool
 pub fn short_addressed(list: PanDescriptorList) -> usize
     ensures { result ≡ short_addressed (descriptors_of list) }
 {
-    in_use(&list).iter().filter(|pd| is_short(*pd)).count()
+    descriptors_in_use(&list)
+        .iter()
+        .filter(|pd| is_short(*pd))
+        .count()
 }
 
 // The neighbour table of a scan: its short-addressed descriptors in their order, at most 16.
@@ -153,7 +166,7 @@ pub fn neighbor_table_from(list: PanDescriptorList) -> NeighborTable
     ensures { result ≡ table_of (take 16 (neighbors_of (descriptors_of list))) }
 {
     let mut table = NeighborTable::new();
-    for pd in in_use(&list) {
+    for pd in descriptors_in_use(&list) {
         if let Some(e) = neighbor_from(*pd) {
             table.add(e);
         }
@@ -169,7 +182,7 @@ fn blank_descriptor() -> NetworkDescriptor
 }
 
 // A confirm that tells of no network.
-pub fn no_networks() -> NlmeNetworkDiscoveryConfirm
+fn no_networks() -> NlmeNetworkDiscoveryConfirm
     ensures { result ≡ confirm_of [] }
 {
     NlmeNetworkDiscoveryConfirm {
@@ -182,7 +195,7 @@ pub fn no_networks() -> NlmeNetworkDiscoveryConfirm
 pub fn network_descriptors(list: PanDescriptorList) -> NlmeNetworkDiscoveryConfirm
     ensures { result ≡ confirm_of (map network_descriptor_of (descriptors_of list)) }
 {
-    let used = in_use(&list);
+    let used = descriptors_in_use(&list);
     let mut confirm = no_networks();
     for (i, pd) in used.iter().enumerate() {
         confirm.network_descriptor[i] = NetworkDescriptor::from(*pd);

@@ -8,15 +8,20 @@ use nib::{CapabilityInformation, ExtendedPanId, IeeeAddress, PanId, ShortAddress
 // The address of the sender of a beacon, with its PAN id.
 #[derive(Clone, Copy)]
 pub enum Address {
+    // by its short address
     Short(PanId, ShortAddress),
+    // by its IEEE address
     Extended(PanId, IeeeAddress),
 }
 
 // The fields of a superframe specification that decisions or the discovery's confirm read.
 #[derive(Clone, Copy)]
 pub struct SuperframeSpecification {
+    // the beacon order
     pub beacon_order: u8,
+    // the superframe order
     pub superframe_order: u8,
+    // whether the sender permits joining
     pub association_permit: bool,
 }
 
@@ -64,19 +69,28 @@ impl StackProfile {
 // What a beacon says of its sender's network.
 #[derive(Clone, Copy)]
 pub struct ZigbeeBeacon {
+    // the stack profile field
     pub stack_profile: StackProfile,
+    // the network
     pub extended_pan_id: ExtendedPanId,
+    // the network's update id
     pub update_id: u8,
 }
 
 // A beacon as a scan hands it over.
 #[derive(Clone, Copy)]
 pub struct PanDescriptor {
+    // the channel on which it was heard
     pub channel: u8,
+    // the sender's PAN id
     pub coord_pan_id: PanId,
+    // the sender's address
     pub coord_address: Address,
+    // its superframe specification
     pub superframe_spec: SuperframeSpecification,
+    // the link quality at which it was heard
     pub link_quality: u8,
+    // what it carries of the network
     pub zigbee_beacon: ZigbeeBeacon,
 }
 
@@ -91,17 +105,24 @@ pub const MAX_PAN_DESCRIPTOR_SIZE: usize = 27;
 // An array with a count: there is no heap. Any count may be handed in: a type that bounds it would ask of the caller what refusal 3 answers now.
 #[derive(Clone, Copy)]
 pub struct PanDescriptorList {
+    // the descriptors, in the order of the beacons
     pub descriptors: [PanDescriptor; MAX_PAN_DESCRIPTOR_SIZE],
+    // how many are in use
     pub count: usize,
 }
 
 // The capability information of an association request (IEEE 802.15.4).
 #[derive(Clone, Copy)]
 pub struct MacCapabilityInformation {
+    // the device joins as a router
     pub full_function_device: bool,
+    // mains power
     pub mains_power: bool,
+    // the receiver is on when idle
     pub idle_receive: bool,
+    // security capability
     pub frame_protection: bool,
+    // the device wants a short address
     pub allocate_address: bool,
 }
 

@@ -46,12 +46,12 @@ send_started destination secure None c = ending (Step.Sent SendAnswer.SendNotJoi
 send_started destination secure (Some p) c = data_to destination secure p c
 
 -- its outcome: "Only sends by `transmit_via_parent` count"
-abbrev pub via_parent : ViaParent → Control → Decision
-via_parent v c = ending (Step.Sent v.answer) (with_nlme v.nlme c)
+abbrev pub send_over : ViaParent → Control → Decision
+send_over v c = ending (Step.Sent v.answer) (with_nlme v.nlme c)
 
 unfoldable pub data_sent : Bool → Option NwkNeighbor → Control → Decision
-data_sent true parent c = via_parent (sent_via_parent parent c.nlme) c
-data_sent false parent c = via_parent (failed_via_parent parent c.nlme) c
+data_sent true parent c = send_over (sent_via_parent parent c.nlme) c
+data_sent false parent c = send_over (failed_via_parent parent c.nlme) c
 
 -- one poll of the parent (Zigbee 3.6.6), or one passive receive
 unfoldable pub poll_started : Option NwkNeighbor → Control → Decision
@@ -76,9 +76,9 @@ unfoldable pub timeout_failed : NegotiationAnswer → TimeoutFor → Option NwkN
 timeout_failed a TimeoutFor.Keepalive parent c = ending (Step.KeepaliveOver KeepaliveAnswer.KeepaliveParentLinkFailure) (with_nlme (link_failure parent c.nlme) c)
 timeout_failed a TimeoutFor.Negotiation parent c = ending (Step.NegotiationOver a) c
 
-unfoldable pub accepted : TimeoutFor → Control → Decision
-accepted TimeoutFor.Keepalive c = ending (Step.KeepaliveOver KeepaliveAnswer.KeepaliveOk) (with_nlme (refreshed c.nlme) c)
-accepted TimeoutFor.Negotiation c = ending (Step.NegotiationOver NegotiationAnswer.Negotiated) c
+unfoldable pub timeout_accepted : TimeoutFor → Control → Decision
+timeout_accepted TimeoutFor.Keepalive c = ending (Step.KeepaliveOver KeepaliveAnswer.KeepaliveOk) (with_nlme (refreshed c.nlme) c)
+timeout_accepted TimeoutFor.Negotiation c = ending (Step.NegotiationOver NegotiationAnswer.Negotiated) c
 
 -- the start of a negotiation or keepalive (Zigbee 3.6.10.2 and 3.6.10.3): an old response is dropped, with no parent too.
 -- "at most 3 polls follow a send that succeeded"
@@ -95,7 +95,7 @@ timeout_started u (Some p) c = requesting u (timeout_requested p (no_timeout_res
 -- the polls: any timeout response ends them and its status decides
 unfoldable pub timeout_answered_by : Option EndDeviceTimeoutResponse → TimeoutFor → Option NwkNeighbor → Control → Decision
 timeout_answered_by (Some r) u parent c =
-    cond (eqb r.status 0) (accepted u (no_timeout_response c)) (timeout_failed NegotiationAnswer.NotNegotiated u parent (no_timeout_response c))
+    cond (eqb r.status 0) (timeout_accepted u (no_timeout_response c)) (timeout_failed NegotiationAnswer.NotNegotiated u parent (no_timeout_response c))
 timeout_answered_by None u parent c = poll_on (Purpose.TimeoutResponse u) parent (timeout_failed NegotiationAnswer.NotNegotiated u parent) c
 
 abbrev pub timeout_goes_on : TimeoutFor → Option NwkNeighbor → Control → Decision

@@ -59,7 +59,7 @@ pub fn start_send(
 }
 
 // What the outcome of a data send does to the failure pairs and the timer, and its answer.
-fn via_parent(nlme: Nlme, sent: bool, parent: Option<NwkNeighbor>) -> ViaParent
+fn count_send(nlme: Nlme, sent: bool, parent: Option<NwkNeighbor>) -> ViaParent
     ensures { result ≡ cond sent (sent_via_parent parent nlme) (failed_via_parent parent nlme) }
 {
     if sent {
@@ -74,7 +74,7 @@ fn via_parent(nlme: Nlme, sent: bool, parent: Option<NwkNeighbor>) -> ViaParent
 pub fn decide_send(control: Control, sent: bool, parent: Option<NwkNeighbor>) -> Decision
     ensures { result ≡ data_sent sent parent control }
 {
-    let ViaParent { nlme, answer } = via_parent(control.nlme, sent, parent);
+    let ViaParent { nlme, answer } = count_send(control.nlme, sent, parent);
     operation::ending(operation::with_nlme(control, nlme), Step::Sent(answer))
 }
 

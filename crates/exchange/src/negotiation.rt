@@ -2,7 +2,7 @@
 ghost use Rattle.std.specs.Prelude.{◌≡◌, cond, eqb};
 ghost use Rattle.nlme.specs.Nlme.{timeout_requested};
 ghost use Rattle.operation.specs.Operation.{with_nlme, ending, poll_on};
-ghost use Rattle.exchange.specs.Exchange.{timeout_failed, accepted, no_timeout_response, requesting, timeout_started, timeout_goes_on, timeout_request_sent};
+ghost use Rattle.exchange.specs.Exchange.{timeout_failed, timeout_accepted, no_timeout_response, requesting, timeout_started, timeout_goes_on, timeout_request_sent};
 
 use management::{KeepaliveAnswer, NegotiationAnswer};
 use nib::NwkNeighbor;
@@ -28,8 +28,8 @@ fn keepalive_over(control: Control, nlme: Nlme, answer: KeepaliveAnswer) -> Deci
 #[tactic(auto, unfolding(crate::specs::Exchange::timeout_failed))]
 fn timeout_failed(
     control: Control,
-    answer: NegotiationAnswer,
     purpose: TimeoutFor,
+    answer: NegotiationAnswer,
     parent: Option<NwkNeighbor>,
 ) -> Decision
     ensures { result ≡ timeout_failed answer purpose parent control }
@@ -44,9 +44,9 @@ fn timeout_failed(
 }
 
 // The parent answered with status 0.
-#[tactic(auto, unfolding(crate::specs::Exchange::accepted))]
-fn accepted(control: Control, purpose: TimeoutFor) -> Decision
-    ensures { result ≡ accepted purpose control }
+#[tactic(auto, unfolding(crate::specs::Exchange::timeout_accepted))]
+fn timeout_accepted(control: Control, purpose: TimeoutFor) -> Decision
+    ensures { result ≡ timeout_accepted purpose control }
 {
     match purpose {
         TimeoutFor::Negotiation => {
@@ -77,7 +77,7 @@ fn request_timeout(control: Control, purpose: TimeoutFor, parent: NwkNeighbor) -
 {
     let built = control.nlme.timeout_request(parent);
     let pending = operation::with_nlme(control, built.nlme);
-    let next = operation::with_polls(pending, TIMEOUT_RESPONSE_POLL_RETRIES);
+    let next = operation::with_polls_left(pending, TIMEOUT_RESPONSE_POLL_RETRIES);
     operation::transmit(
         next,
         Phase::Transmission(TransmissionFor::TimeoutRequest(purpose)),
@@ -98,8 +98,8 @@ pub fn start_timeout_request(
     match parent {
         None => timeout_failed(
             ready,
-            NegotiationAnswer::NegotiationNotJoined,
             purpose,
+            NegotiationAnswer::NegotiationNotJoined,
             None,
         ),
         Some(parent) => request_timeout(ready, purpose, parent),
@@ -111,24 +111,24 @@ pub fn start_timeout_request(
 fn timeout_missing(control: Control, purpose: TimeoutFor, parent: Option<NwkNeighbor>) -> Decision
     ensures { result ≡ poll_on (Purpose.TimeoutResponse purpose) parent (timeout_failed NegotiationAnswer.NotNegotiated purpose parent) control }
 {
-    let over = |control| timeout_failed(control, NegotiationAnswer::NotNegotiated, purpose, parent);
+    let over = |control| timeout_failed(control, purpose, NegotiationAnswer::NotNegotiated, parent);
     operation::next_poll(control, Purpose::TimeoutResponse(purpose), parent).unwrap_or_else(over)
 }
 
 // A timeout response ends the polls, and its status decides.
 fn decide_timeout_response(
     control: Control,
-    status: u8,
     purpose: TimeoutFor,
+    status: u8,
     parent: Option<NwkNeighbor>,
 ) -> Decision
-    ensures { result ≡ cond (eqb status 0) (accepted purpose (no_timeout_response control)) (timeout_failed NegotiationAnswer.NotNegotiated purpose parent (no_timeout_response control)) }
+    ensures { result ≡ cond (eqb status 0) (timeout_accepted purpose (no_timeout_response control)) (timeout_failed NegotiationAnswer.NotNegotiated purpose parent (no_timeout_response control)) }
 {
     let taken = no_timeout_response(control);
     if status == 0 {
-        return accepted(taken, purpose);
+        return timeout_accepted(taken, purpose);
     }
-    timeout_failed(taken, NegotiationAnswer::NotNegotiated, purpose, parent)
+    timeout_failed(taken, purpose, NegotiationAnswer::NotNegotiated, parent)
 }
 
 // The polls go on, or are over.
@@ -142,7 +142,7 @@ pub fn timeout_goes_on(
 {
     match control.nlme.signals.timeout_response {
         None => timeout_missing(control, purpose, parent),
-        Some(response) => decide_timeout_response(control, response.status, purpose, parent),
+        Some(response) => decide_timeout_response(control, purpose, response.status, parent),
     }
 }
 
@@ -161,8 +161,8 @@ pub fn decide_timeout_request(
     }
     timeout_failed(
         control,
-        NegotiationAnswer::NegotiationMacError,
         purpose,
+        NegotiationAnswer::NegotiationMacError,
         parent,
     )
 }

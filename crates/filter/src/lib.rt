@@ -24,7 +24,9 @@ fn in_words(text: &str) -> &str {
 // The edges of a program: the system, as `main` is given it, and the program's name.
 #[derive(Drop)]
 pub struct Edges<'a, R> {
+    // the system, as `main` is given it
     pub rt: &'a R,
+    // the program's name, as errors say it
     pub program: &'a [u8],
 }
 

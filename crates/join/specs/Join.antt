@@ -29,15 +29,7 @@ failing st c = ending (Step.Joined (failure st)) c
 
 -- whether the candidate being tried is no longer a potential parent
 abbrev pub clearing : Bool → Decision → Decision
-clearing clear d =
-    record {
-      control = d.control;
-      clear_potential_parent = clear;
-      candidate = d.candidate;
-      note = d.note;
-      step = d.step;
-      polls_used = d.polls_used;
-    }
+clearing clear d = record d { clear_potential_parent = clear }
 
 -- the request to associate with an entry (IEEE 802.15.4, association request): by its channel, PAN id and short address, with the stored capabilities
 abbrev pub associate_request : NwkNeighbor → Control → AssociateRequest

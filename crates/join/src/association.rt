@@ -11,8 +11,11 @@ use operation::{AssociateRequest, Control, Decision, Move, Phase, RadioRequest, 
 // The answer of a candidate: its status, the short address assigned and this device's IEEE address.
 #[derive(Clone, Copy)]
 pub struct AssociationResponse {
+    // 0 success, 1 at capacity, 2 access denied
     pub status: u8,
+    // the short address that is given
     pub association_address: ShortAddress,
+    // this device's IEEE address
     pub device_address: IeeeAddress,
 }
 
@@ -52,7 +55,8 @@ pub fn start_join(
         None => crate::failing(reset, NlmeJoinStatus::NotPermitted),
         Some(entry) => {
             let stored = crate::store_capabilities(reset, capability_information);
-            request_association(stored, false, entry)
+            let clear = false;
+            request_association(stored, clear, entry)
         }
     }
 }
@@ -94,7 +98,8 @@ fn joined_by(control: Control, response: AssociationResponse, entry: NwkNeighbor
 {
     let step = Step::Joined(joined_confirm(response, entry));
     let joined = joined_control(control, response, entry);
-    crate::moving(joined, false, Move::JoinTried, step, Phase::Idle)
+    let clear = false;
+    crate::moving(joined, clear, Move::JoinTried, step, Phase::Idle)
 }
 
 // Whether a candidate that has failed with a status is no longer a potential parent.

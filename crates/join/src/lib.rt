@@ -47,18 +47,19 @@ fn failing_on(control: Control, clear: bool, status: NlmeJoinStatus) -> Decision
 pub fn failing(control: Control, status: NlmeJoinStatus) -> Decision
     ensures { result ≡ failing status control }
 {
-    failing_on(control, false, status)
+    let clear = false;
+    failing_on(control, clear, status)
 }
 
 // Forgets what was negotiated with the last parent.
-pub fn reset_negotiation(control: Control) -> Control
+fn reset_negotiation(control: Control) -> Control
     ensures { result ≡ reset_negotiation control }
 {
     operation::with_nlme(control, control.nlme.reset_parent_negotiation())
 }
 
 // Stores the capabilities of a request.
-pub fn store_capabilities(mut control: Control, capabilities: CapabilityInformation) -> Control
+fn store_capabilities(mut control: Control, capabilities: CapabilityInformation) -> Control
     ensures { result ≡ store_capabilities capabilities control }
 {
     control.nlme.nib.capability_information = capabilities;

@@ -11,7 +11,9 @@ use supervision::parent_timer::ParentTimer;
 // What a tick leaves in the lent record, and what it answers.
 #[derive(Clone, Copy)]
 pub struct LentTicked {
+    // the lent record then
     pub timer: ParentTimer,
+    // what the tick answers
     pub answer: Answer,
 }
 

@@ -7,23 +7,18 @@ use Rattle.management.specs.declared.EndDeviceTimeoutResponse.{EndDeviceTimeoutR
 use Rattle.management.specs.declared.NlmeLeaveIndication.{NlmeLeaveIndication}
 use Rattle.management.specs.declared.NlmeNwkStatusIndication.{NlmeNwkStatusIndication}
 
-abbrev signals : Option RejoinResponse → Option EndDeviceTimeoutResponse → Option NlmeLeaveIndication → Option NlmeNwkStatusIndication → Signals
-signals rejoin timeout leave status =
-    record { rejoin_response = rejoin; timeout_response = timeout; leave_indication = leave; nwk_status_indication = status }
-
 -- every slot is empty
 abbrev pub no_signals : Signals
-no_signals =
-    signals None None None None
+no_signals = record { rejoin_response = None; timeout_response = None; leave_indication = None; nwk_status_indication = None }
 
 abbrev pub with_rejoin_response : Option RejoinResponse → Signals → Signals
-with_rejoin_response slot s = signals slot s.timeout_response s.leave_indication s.nwk_status_indication
+with_rejoin_response slot s = record s { rejoin_response = slot }
 
 abbrev pub with_timeout_response : Option EndDeviceTimeoutResponse → Signals → Signals
-with_timeout_response slot s = signals s.rejoin_response slot s.leave_indication s.nwk_status_indication
+with_timeout_response slot s = record s { timeout_response = slot }
 
 abbrev pub with_leave_indication : Option NlmeLeaveIndication → Signals → Signals
-with_leave_indication slot s = signals s.rejoin_response s.timeout_response slot s.nwk_status_indication
+with_leave_indication slot s = record s { leave_indication = slot }
 
 abbrev pub with_status_indication : Option NlmeNwkStatusIndication → Signals → Signals
-with_status_indication slot s = signals s.rejoin_response s.timeout_response s.leave_indication slot
+with_status_indication slot s = record s { nwk_status_indication = slot }

@@ -8,27 +8,37 @@ use nib::{CapabilityInformation, IeeeAddress, ShortAddress};
 // The sender of a received frame.
 #[derive(Clone, Copy)]
 pub struct Source {
+    // its short address
     pub address: ShortAddress,
+    // its IEEE address, where the frame carries one
     pub ieee: Option<IeeeAddress>,
 }
 
 // The options of a leave command (Zigbee 3.4.4): whether it is a request, whether the device that leaves rejoins, and whether its children are removed.
 #[derive(Clone, Copy)]
 pub struct LeaveOptions {
+    // whether the receiver is asked to leave; else the sender leaves
     pub request: bool,
+    // whether the device that leaves rejoins
     pub rejoin: bool,
+    // whether its children are removed too
     pub remove_children: bool,
 }
 
 // A frame that the radio received, decoded, or one that can't be decoded.
 #[derive(Clone, Copy)]
 pub enum ReceivedFrame {
+    // a frame that can't be decoded
     Undecodable,
+    // a data frame, without what it carries
     Data(Source),
+    // a rejoin response
     RejoinResponseCommand(Source, RejoinResponse),
+    // an end device timeout response
     TimeoutResponseCommand(Source, EndDeviceTimeoutResponse),
     // its destination and options
     LeaveCommand(Source, ShortAddress, LeaveOptions),
+    // any other command: it teaches the table its sender, and no more
     OtherCommand(Source),
     // reserved or inter-PAN
     OtherFrame,
@@ -37,26 +47,37 @@ pub enum ReceivedFrame {
 // The header of a command frame that is sent.
 #[derive(Clone, Copy)]
 pub struct CommandHeader {
+    // the short address that it is for
     pub destination: ShortAddress,
+    // the destination's IEEE address, where it is known
     pub destination_ieee: Option<IeeeAddress>,
+    // this device's short address
     pub source: ShortAddress,
+    // this device's IEEE address
     pub source_ieee: IeeeAddress,
+    // the sequence number that it uses up
     pub sequence_number: u8,
+    // whether it is sent secured
     pub secure: bool,
 }
 
 // The header of a data frame that is sent: it carries no IEEE address.
 #[derive(Clone, Copy)]
 pub struct DataHeader {
+    // the short address that it is for
     pub destination: ShortAddress,
+    // this device's short address
     pub source: ShortAddress,
+    // the sequence number that it uses up
     pub sequence_number: u8,
+    // whether it is sent secured
     pub secure: bool,
 }
 
 // A command that is sent.
 #[derive(Clone, Copy)]
 pub enum SentCommand {
+    // this device's capabilities
     RejoinRequest(CapabilityInformation),
     // the requested timeout index
     TimeoutRequest(u8),
@@ -67,7 +88,9 @@ pub enum SentCommand {
 // A frame that is sent.
 #[derive(Clone, Copy)]
 pub enum SentFrame {
+    // a data frame, to which its owner adds what it carries
     DataFrame(DataHeader),
+    // a command frame
     CommandFrame(CommandHeader, SentCommand),
 }
 

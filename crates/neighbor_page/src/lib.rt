@@ -11,11 +11,17 @@ ghost use Rattle.neighbor_page.specs.Page.{first_row, entry_row, blank_row, slot
 use nib::{MAX_NEIGBOUR_TABLE, NeighborTable, NwkNeighbor};
 use text::writer::Writer;
 
-// The bytes of a page: 17 rows of 47 characters, each with a line feed.
+// The rows of a page: the first, and one for each slot of the table.
+const ROWS: usize = 17;
+
+// The bytes of a row: 47 characters and a line feed.
+const ROW_BYTES: usize = 48;
+
+// The bytes of a page.
 pub const PAGE_BYTES: usize = 816;
 
 // The row with the columns' letters.
-fn first_row() -> [u8; 48]
+fn first_row() -> [u8; ROW_BYTES]
     ensures { result ≡ first_row }
 {
     *b"i  a    e                p    c   d   l   k r  \n"
@@ -23,11 +29,11 @@ fn first_row() -> [u8; 48]
 
 // The row of an unused slot.
 #[tactic(auto, unfolding(crate::specs::Page::blank_row))]
-fn blank_row() -> [u8; 48]
+fn blank_row() -> [u8; ROW_BYTES]
     ensures { result ≡ blank_row }
 {
-    let mut blank = [b' '; 48];
-    blank[47] = b'\n';
+    let mut blank = [b' '; ROW_BYTES];
+    blank[ROW_BYTES - 1] = b'\n';
     blank
 }
 
@@ -74,17 +80,17 @@ fn write_entry(row: &mut Writer, index: u8, e: &NwkNeighbor)
 
 // The row of an entry at an index of the table.
 #[tactic(auto, unfolding(text::specs::Writer::with_text), using(crate::proofs::Form::filled, crate::proofs::Form::entry_48))]
-fn entry_row(index: u8, e: NwkNeighbor) -> [u8; 48]
+fn entry_row(index: u8, e: NwkNeighbor) -> [u8; ROW_BYTES]
     ensures { result ≡ entry_row index e }
 {
-    let mut row = [0; 48];
+    let mut row = [0; ROW_BYTES];
     write_entry(&mut Writer::new(&mut row), index, &e);
     row
 }
 
 // The row of a slot of the table.
 #[tactic(auto, unfolding(crate::specs::Page::slot_row))]
-fn slot_row(index: u8, slot: Option<NwkNeighbor>) -> [u8; 48]
+fn slot_row(index: u8, slot: Option<NwkNeighbor>) -> [u8; ROW_BYTES]
     ensures { result ≡ slot_row index slot }
 {
     match slot {
@@ -94,10 +100,10 @@ fn slot_row(index: u8, slot: Option<NwkNeighbor>) -> [u8; 48]
 }
 
 // All rows, gathered before anything is written.
-fn rows_of(table: NeighborTable) -> [[u8; 48]; 17]
+fn rows_of(table: NeighborTable) -> [[u8; ROW_BYTES]; ROWS]
     ensures { result ≡ rows (entries_of table) }
 {
-    let mut rows = [first_row(); 17];
+    let mut rows = [first_row(); ROWS];
     for i in 0..MAX_NEIGBOUR_TABLE {
         rows[i as usize + 1] = slot_row(i, table.get(i));
     }
@@ -105,7 +111,7 @@ fn rows_of(table: NeighborTable) -> [[u8; 48]; 17]
 }
 
 // Writes a row at the start of its part of the page.
-fn write_row(part: &mut [u8], row: &[u8; 48])
+fn write_row(part: &mut [u8], row: &[u8; ROW_BYTES])
     ensures { part.new ≡ sets part.old 0 row.now }
 {
     text::write(part, 0, row);
@@ -121,7 +127,7 @@ pub fn write_page(page: &mut [u8], table: NeighborTable) -> bool
     }
     let rows = rows_of(table);
     for (k, row) in rows.iter().enumerate() {
-        write_row(&mut page[k * 48..], row);
+        write_row(&mut page[k * ROW_BYTES..], row);
     }
     true
 }

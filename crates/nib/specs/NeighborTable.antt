@@ -33,76 +33,20 @@ ieee_of a es = known_ieee (found a es)
 
 -- An entry with a change
 
--- with another IEEE address and relationship
-abbrev known : IeeeAddress → ℕ → NwkNeighbor → NwkNeighbor
-known ieee relationship e =
-    record {
-      extended_address = ieee;
-      network_address = e.network_address;
-      device_type = e.device_type;
-      rx_on_when_idle = e.rx_on_when_idle;
-      end_device_configuration = e.end_device_configuration;
-      relationship = relationship;
-      lqi = e.lqi;
-      outgoing_cost = e.outgoing_cost;
-      age = e.age;
-      keepalive_received = e.keepalive_received;
-      extended_pan_id = e.extended_pan_id;
-      logical_channel = e.logical_channel;
-      depth = e.depth;
-      permit_joining = e.permit_joining;
-      potential_parent = e.potential_parent;
-      router_capacity = e.router_capacity;
-      end_device_capacity = e.end_device_capacity;
-      update_id = e.update_id;
-      pan_id = e.pan_id;
-    }
-
 abbrev pub with_ieee : IeeeAddress → NwkNeighbor → NwkNeighbor
-with_ieee a e = known a e.relationship e
+with_ieee a e = record e { extended_address = a }
 
 abbrev pub with_relationship : ℕ → NwkNeighbor → NwkNeighbor
-with_relationship r e = known e.extended_address r e
+with_relationship r e = record e { relationship = r }
 
 -- no longer a potential parent
 abbrev pub without_potential : NwkNeighbor → NwkNeighbor
-without_potential e =
-    record {
-      extended_address = e.extended_address;
-      network_address = e.network_address;
-      device_type = e.device_type;
-      rx_on_when_idle = e.rx_on_when_idle;
-      end_device_configuration = e.end_device_configuration;
-      relationship = e.relationship;
-      lqi = e.lqi;
-      outgoing_cost = e.outgoing_cost;
-      age = e.age;
-      keepalive_received = e.keepalive_received;
-      extended_pan_id = e.extended_pan_id;
-      logical_channel = e.logical_channel;
-      depth = e.depth;
-      permit_joining = e.permit_joining;
-      potential_parent = 0;
-      router_capacity = e.router_capacity;
-      end_device_capacity = e.end_device_capacity;
-      update_id = e.update_id;
-      pan_id = e.pan_id;
-    }
+without_potential e = record e { potential_parent = 0 }
 
 -- without its "beacon fields" (01, "Join request and confirm"), which are those of Zigbee Table 3-64; the PAN id becomes 0xffff
 abbrev pub cleared : NwkNeighbor → NwkNeighbor
 cleared e =
-    record {
-      extended_address = e.extended_address;
-      network_address = e.network_address;
-      device_type = e.device_type;
-      rx_on_when_idle = e.rx_on_when_idle;
-      end_device_configuration = e.end_device_configuration;
-      relationship = e.relationship;
-      lqi = e.lqi;
-      outgoing_cost = e.outgoing_cost;
-      age = e.age;
-      keepalive_received = e.keepalive_received;
+    record e {
       extended_pan_id = record { 0 = 0 };
       logical_channel = 0;
       depth = 0;

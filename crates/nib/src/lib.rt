@@ -12,15 +12,19 @@ pub mod neighbor_table;
 #[derive(Clone, Copy, PartialEq, Eq, Default)]
 pub struct PanId(pub u16);
 
+// The 16-bit address of a device in its network.
 #[derive(Clone, Copy, PartialEq, Eq, Default)]
 pub struct ShortAddress(pub u16);
 
+// The 64-bit id of a network.
 #[derive(Clone, Copy, PartialEq, Eq, Default)]
 pub struct ExtendedPanId(pub u64);
 
+// The 64-bit address of a device, which it keeps in every network.
 #[derive(Clone, Copy, PartialEq, Eq, Default)]
 pub struct IeeeAddress(pub u64);
 
+// The coordinator's short address.
 pub const NWK_COORDINATOR_ADDRESS: ShortAddress = ShortAddress(0x0000);
 
 // The short address of a device that is not joined (Zigbee 3.6.1.10.4).
@@ -34,10 +38,15 @@ pub const NWK_BROADCAST_ADDRESS_MIN: u16 = 0xfff8;
 
 // What a neighbour is to this device (Zigbee Table 3-63).
 pub mod relationship {
+    // the neighbour is the parent
     pub const PARENT: u8 = 0x00;
 
+    // no relationship
     pub const NONE: u8 = 0x03;
 }
+
+// The PAN id of no network.
+pub const NO_PAN_ID: PanId = PanId(0xffff);
 
 // How many entries the neighbour table holds at most; as many candidates and failure pairs are kept. Spelt as in the source.
 pub const MAX_NEIGBOUR_TABLE: u8 = 16;
@@ -108,16 +117,27 @@ impl CapabilityInformation {
 // The attributes that decisions read or write. An end device timeout of 255 says that none is negotiated.
 #[derive(Clone, Copy)]
 pub struct Nib {
+    // this device's short address; 0xffff where it is not joined
     pub network_address: ShortAddress,
+    // this device's IEEE address
     pub ieee_address: IeeeAddress,
+    // the remembered network; 0 for none
     pub extended_panid: ExtendedPanId,
+    // the network's PAN id; 0xffff for none
     pub panid: PanId,
+    // the network's update id
     pub update_id: u8,
+    // what this device says of itself
     pub capability_information: CapabilityInformation,
+    // 1 orders the candidates by depth
     pub stack_profile: u8,
+    // what keepalives the parent takes; 0 where none is negotiated
     pub parent_information: u8,
+    // the index of the negotiated timeout; 0xff for none
     pub end_device_timeout: u8,
+    // the index that a negotiation asks for
     pub end_device_timeout_default: u8,
+    // whether this device, as a router, accepts leave requests
     pub leave_request_allowed: bool,
 }
 
@@ -131,7 +151,7 @@ impl Nib {
             network_address: NWK_UNASSIGNED_ADDRESS,
             ieee_address,
             extended_panid: ExtendedPanId(0),
-            panid: PanId(0xffff),
+            panid: NO_PAN_ID,
             update_id: 0,
             capability_information: CapabilityInformation(0),
             stack_profile: 0,
@@ -143,12 +163,17 @@ impl Nib {
     }
 }
 
+// What kind of device a neighbour is (Zigbee Table 3-63).
 #[derive(Clone, Copy, Default)]
 pub enum DeviceType {
     #[default]
+    // the coordinator
     Coordinator,
+    // a router
     Router,
+    // an end device
     EndDevice,
+    // any other number
     Invalid(u8),
 }
 
@@ -166,24 +191,43 @@ pub fn device_type_at(address: ShortAddress) -> DeviceType
 // A neighbour entry, in the source's field order. An IEEE address of 0 is not known.
 #[derive(Clone, Copy, Default)]
 pub struct NwkNeighbor {
+    // its IEEE address; 0 where it is not known
     pub extended_address: IeeeAddress,
+    // its short address
     pub network_address: ShortAddress,
+    // what it is
     pub device_type: DeviceType,
+    // whether its receiver is on when idle
     pub rx_on_when_idle: bool,
+    // of an end device; no decision reads it
     pub end_device_configuration: u16,
+    // what it is to this device: see `relationship`
     pub relationship: u8,
+    // the link quality of its last beacon
     pub lqi: u8,
+    // the cost that it reports; no decision reads it
     pub outgoing_cost: u8,
+    // no decision reads it
     pub age: u8,
+    // no decision reads it
     pub keepalive_received: bool,
+    // its network; 0 once a join has cleared the beacon fields
     pub extended_pan_id: ExtendedPanId,
+    // its channel
     pub logical_channel: u8,
+    // its depth in its network
     pub depth: u8,
+    // whether it permits joining
     pub permit_joining: bool,
+    // 1 where it may become the parent, else 0
     pub potential_parent: u8,
+    // whether it has room for a router
     pub router_capacity: bool,
+    // whether it has room for an end device
     pub end_device_capacity: bool,
+    // its network's update id
     pub update_id: u8,
+    // its network's PAN id
     pub pan_id: PanId,
 }
 
@@ -191,7 +235,9 @@ pub struct NwkNeighbor {
 // An array with a count: there is no heap. Any count may be handed in: a type that bounds it would ask of the caller what refusal 5 answers now.
 #[derive(Clone, Copy)]
 pub struct NeighborTable {
+    // the entries, in the order of the scan
     pub entries: [NwkNeighbor; MAX_NEIGBOUR_TABLE as usize],
+    // how many are in use
     pub count: u8,
 }
 

@@ -7,7 +7,7 @@ ghost use Rattle.nib.specs.declared.NwkNeighbor.{NwkNeighbor};
 ghost use Rattle.nib.specs.Private.{Changes};
 
 use crate::{
-    ExtendedPanId, IeeeAddress, NeighborTable, NwkNeighbor, PanId, ShortAddress, relationship,
+    ExtendedPanId, IeeeAddress, NO_PAN_ID, NeighborTable, NwkNeighbor, ShortAddress, relationship,
 };
 
 // The index of the first entry with relationship PARENT.
@@ -151,7 +151,7 @@ fn clear(e: &mut NwkNeighbor)
     e.router_capacity = false;
     e.end_device_capacity = false;
     e.update_id = 0;
-    e.pan_id = PanId(0xffff);
+    e.pan_id = NO_PAN_ID;
 }
 
 // Every entry without its beacon fields.

@@ -14,93 +14,56 @@ use Rattle.nlme.specs.declared.Nlme.{Nlme}
 
 -- The node's own part
 
-abbrev nlme : Nib → ℕ → ℕ → ParentTimer → Signals → TransmitFailures → Nlme
-nlme nib seq pending timer signals failures =
-    record {
-      nib = nib;
-      nwk_seq = seq;
-      pending_timeout_request = pending;
-      parent_timer = timer;
-      signals = signals;
-      transmit_failures = failures;
-    }
-
 abbrev pub with_nib : Nib → Nlme → Nlme
-with_nib x n = nlme x n.nwk_seq n.pending_timeout_request n.parent_timer n.signals n.transmit_failures
+with_nib x n = record n { nib = x }
 
 abbrev pub with_seq : ℕ → Nlme → Nlme
-with_seq x n = nlme n.nib x n.pending_timeout_request n.parent_timer n.signals n.transmit_failures
+with_seq x n = record n { nwk_seq = x }
 
 abbrev pub with_pending : ℕ → Nlme → Nlme
-with_pending x n = nlme n.nib n.nwk_seq x n.parent_timer n.signals n.transmit_failures
+with_pending x n = record n { pending_timeout_request = x }
 
 abbrev pub with_timer : ParentTimer → Nlme → Nlme
-with_timer x n = nlme n.nib n.nwk_seq n.pending_timeout_request x n.signals n.transmit_failures
+with_timer x n = record n { parent_timer = x }
 
 abbrev pub with_signals : Signals → Nlme → Nlme
-with_signals x n = nlme n.nib n.nwk_seq n.pending_timeout_request n.parent_timer x n.transmit_failures
+with_signals x n = record n { signals = x }
 
 abbrev pub with_failures : TransmitFailures → Nlme → Nlme
-with_failures x n = nlme n.nib n.nwk_seq n.pending_timeout_request n.parent_timer n.signals x
+with_failures x n = record n { transmit_failures = x }
 
 -- Its attributes
 
--- own addresses and the network's ids; all others stay
-abbrev with_ids : ShortAddress → IeeeAddress → ExtendedPanId → PanId → ℕ → Nib → Nib
-with_ids address ieee network pan update n =
-    record {
-      network_address = address;
-      ieee_address = ieee;
-      extended_panid = network;
-      panid = pan;
-      update_id = update;
-      capability_information = n.capability_information;
-      stack_profile = n.stack_profile;
-      parent_information = n.parent_information;
-      end_device_timeout = n.end_device_timeout;
-      end_device_timeout_default = n.end_device_timeout_default;
-      leave_request_allowed = n.leave_request_allowed;
-    }
-
--- capabilities, parent information and timeout index; all others stay
-abbrev with_terms : CapabilityInformation → ℕ → ℕ → Nib → Nib
-with_terms capabilities information index n =
-    record {
-      network_address = n.network_address;
-      ieee_address = n.ieee_address;
-      extended_panid = n.extended_panid;
-      panid = n.panid;
-      update_id = n.update_id;
-      capability_information = capabilities;
-      stack_profile = n.stack_profile;
-      parent_information = information;
-      end_device_timeout = index;
-      end_device_timeout_default = n.end_device_timeout_default;
-      leave_request_allowed = n.leave_request_allowed;
-    }
-
 abbrev pub with_address : ShortAddress → Nib → Nib
-with_address a n = with_ids a n.ieee_address n.extended_panid n.panid n.update_id n
+with_address a n = record n { network_address = a }
 
 abbrev pub with_extended_pan_id : ExtendedPanId → Nib → Nib
-with_extended_pan_id e n = with_ids n.network_address n.ieee_address e n.panid n.update_id n
+with_extended_pan_id e n = record n { extended_panid = e }
 
 abbrev pub with_capabilities : CapabilityInformation → Nib → Nib
-with_capabilities c n = with_terms c n.parent_information n.end_device_timeout n
+with_capabilities c n = record n { capability_information = c }
 
+-- parent information and timeout index
 abbrev pub with_negotiated : ℕ → ℕ → Nib → Nib
-with_negotiated information index n = with_terms n.capability_information information index n
+with_negotiated information index n = record n { parent_information = information; end_device_timeout = index }
 
 -- the attributes that `clear_nib_on_leave` resets, of those held here; the timeout index stays (01, "Received frame"; Zigbee 3.6.1.10.4)
 abbrev pub with_network_left : Nib → Nib
 with_network_left n =
-    with_ids (record { 0 = 0xffff }) n.ieee_address (record { 0 = 0 }) (record { 0 = 0xffff }) 0 (with_negotiated 0 n.end_device_timeout n)
+    record n {
+      network_address = record { 0 = 0xffff };
+      extended_panid = record { 0 = 0 };
+      panid = record { 0 = 0xffff };
+      update_id = 0;
+      parent_information = 0;
+    }
 
 -- what an association sets: own addresses, and the ids of the entry that is the parent now
 -- (01, "Join request and confirm": "sets addresses, ids"; Zigbee 3.6.1.4.1.1)
 abbrev pub with_joined : ShortAddress → IeeeAddress → NwkNeighbor → Nib → Nib
-with_joined a ieee e n = with_ids a ieee e.extended_pan_id e.pan_id e.update_id n
+with_joined a ieee e n =
+    record n { network_address = a; ieee_address = ieee; extended_panid = e.extended_pan_id; panid = e.pan_id; update_id = e.update_id }
 
 -- what a rejoin sets before it tries a candidate: its PAN id and update id (`adopt_parent` of the source; Zigbee 3.6.1.4.2)
 abbrev pub with_adopted : NwkNeighbor → Nib → Nib
-with_adopted e n = with_ids n.network_address n.ieee_address n.extended_panid e.pan_id e.update_id n
+with_adopted e n = record n { panid = e.pan_id; update_id = e.update_id }

@@ -22,42 +22,55 @@ pub const NO_PENDING_TIMEOUT: u8 = 0xff;
 // The node's own part of the state.
 #[derive(Clone, Copy)]
 pub struct Nlme {
+    // the attributes
     pub nib: Nib,
     // the last sequence number used
     pub nwk_seq: u8,
     // the index of a timeout request that awaits its response; `NO_PENDING_TIMEOUT` for none
     pub pending_timeout_request: u8,
+    // the timer that watches the parent
     pub parent_timer: ParentTimer,
+    // what was received and is still to be taken
     pub signals: Signals,
+    // the sends that failed, by neighbour
     pub transmit_failures: TransmitFailures,
 }
 
 // A frame for the radio to transmit, and to whom.
 #[derive(Clone, Copy)]
 pub struct Transmission {
+    // the PAN that it is sent in
     pub pan_id: PanId,
+    // the neighbour that it is sent to, or the broadcast address
     pub address: ShortAddress,
+    // what is sent
     pub frame: SentFrame,
 }
 
 // What the start of a transmission leaves, and what the radio is asked.
 #[derive(Clone, Copy)]
 pub struct Transmitting {
+    // the node's own part then
     pub nlme: Nlme,
+    // what the radio is asked to send
     pub transmission: Transmission,
 }
 
 // What a tick leaves, and whether the timer expired.
 #[derive(Clone, Copy)]
 pub struct NlmeTicked {
+    // the node's own part then
     pub nlme: Nlme,
+    // whether the timer has just reached 0
     pub expired: bool,
 }
 
 // What the outcome of a send by way of the parent leaves, and its answer.
 #[derive(Clone, Copy)]
 pub struct ViaParent {
+    // the node's own part then
     pub nlme: Nlme,
+    // the send's answer
     pub answer: SendAnswer,
 }
 
@@ -79,7 +92,7 @@ impl Nlme {
             nib,
             nwk_seq,
             pending_timeout_request: NO_PENDING_TIMEOUT,
-            parent_timer: ParentTimer { remaining_ms: 0 },
+            parent_timer: ParentTimer::new(),
             signals: Signals::new(),
             transmit_failures: TransmitFailures::new(),
         }
@@ -113,13 +126,13 @@ impl Nlme {
     {
         self.nib.parent_information = 0;
         self.nib.end_device_timeout = NO_TIMEOUT_NEGOTIATED;
-        self.parent_timer = ParentTimer { remaining_ms: 0 };
+        self.parent_timer = ParentTimer::new();
         self
     }
 
     // The header of the next command frame.
     #[tactic(auto, unfolding(crate::specs::Nlme::command_header))]
-    pub fn command_header(
+    fn command_header(
         self,
         destination: ShortAddress,
         destination_ieee: Option<IeeeAddress>,
@@ -170,7 +183,8 @@ impl Nlme {
     {
         let ieee = neighbor_table::known_ieee(Some(parent));
         let command = SentCommand::TimeoutRequest(self.nib.end_device_timeout_default);
-        self.command_to(parent.network_address, ieee, true, command)
+        let secure = true;
+        self.command_to(parent.network_address, ieee, secure, command)
     }
 
     // A timeout request to the parent, pending once it is built.
@@ -179,7 +193,7 @@ impl Nlme {
         ensures { result ≡ timeout_requested parent self }
     {
         let transmission = self.timeout_transmission(parent);
-        self.nwk_seq = frame::next_nwk_seq(self.nwk_seq);
+        self = self.use_nwk_seq();
         self.pending_timeout_request = self.nib.end_device_timeout_default;
         Transmitting {
             nlme: self,

@@ -9,29 +9,35 @@ use management::{
     EndDeviceTimeoutResponse, LeavingDevice, NlmeLeaveIndication, PollAnswer, RejoinResponse,
 };
 use nib::{
-    ExtendedPanId, IeeeAddress, NeighborTable, Nib, NwkNeighbor, PanId, ShortAddress,
-    neighbor_table,
+    ExtendedPanId, IeeeAddress, NeighborTable, Nib, NwkNeighbor, ShortAddress, neighbor_table,
 };
 
 // The announcement of this device's leave: the frame, and whether the device rejoins.
 #[derive(Clone, Copy)]
 pub struct LeaveAnnouncement {
+    // the leave command as it is sent
     pub transmission: Transmission,
+    // whether the device rejoins
     pub rejoin: bool,
 }
 
 // What follows a frame: the poll or receive is over, with what a single one answers; or a leave is announced.
 #[derive(Clone, Copy)]
 pub enum Then {
+    // the poll or receive is over, and this is what a single one answers
     Over(PollAnswer),
+    // a leave request was accepted: it is announced first
     Announce(LeaveAnnouncement),
 }
 
 // What a frame leaves, the address of the neighbour that leaves the table, and what follows.
 #[derive(Clone, Copy)]
 pub struct Handled {
+    // the node's own part then
     pub nlme: Nlme,
+    // the neighbour that leaves the table, where one does
     pub removed: Option<ShortAddress>,
+    // what follows
     pub then: Then,
 }
 
@@ -165,7 +171,8 @@ fn leave_to(
         rejoin,
         remove_children,
     };
-    nlme.command_to(address, ieee, true, SentCommand::Leave(options))
+    let secure = true;
+    nlme.command_to(address, ieee, secure, SentCommand::Leave(options))
 }
 
 // What is seen in the table when a frame is dealt with: the parent, and the IEEE address that is known of the broadcast address.
@@ -200,7 +207,7 @@ fn announce_leave(nlme: Nlme, seen: Seen, options: LeaveOptions) -> Transmission
 }
 
 // A frame that is dealt with and leaves the table as it is.
-fn over(nlme: Nlme, answer: PollAnswer) -> Handled
+fn dealt_with(nlme: Nlme, answer: PollAnswer) -> Handled
     ensures { result ≡ dealt_with nlme answer }
 {
     Handled {
@@ -222,7 +229,7 @@ fn handle_leave_request(
 {
     let from_parent = is_from_parent(seen.parent, source);
     if !accepts_leave_request(nlme.nib, destination, from_parent) {
-        return over(nlme, PollAnswer::PollNothing);
+        return dealt_with(nlme, PollAnswer::PollNothing);
     }
     let announcement = LeaveAnnouncement {
         transmission: announce_leave(nlme, seen, options),
@@ -266,16 +273,16 @@ pub fn process_received_nwk_frame(
     ensures { result ≡ handled parent broadcast_ieee frame nlme }
 {
     match frame {
-        ReceivedFrame::Undecodable => over(nlme, PollAnswer::PollUndecodable),
-        ReceivedFrame::Data(_) => over(nlme, PollAnswer::PollData),
+        ReceivedFrame::Undecodable => dealt_with(nlme, PollAnswer::PollUndecodable),
+        ReceivedFrame::Data(_) => dealt_with(nlme, PollAnswer::PollData),
         ReceivedFrame::RejoinResponseCommand(_, response) => {
-            over(
+            dealt_with(
                 handle_rejoin_response(nlme, response),
                 PollAnswer::PollNothing,
             )
         }
         ReceivedFrame::TimeoutResponseCommand(_, response) => {
-            over(
+            dealt_with(
                 handle_timeout_response(nlme, response),
                 PollAnswer::PollNothing,
             )
@@ -287,7 +294,7 @@ pub fn process_received_nwk_frame(
             };
             handle_leave_command(nlme, seen, source, destination, options)
         }
-        ReceivedFrame::OtherCommand(_) | ReceivedFrame::OtherFrame => over(
+        ReceivedFrame::OtherCommand(_) | ReceivedFrame::OtherFrame => dealt_with(
             nlme,
             PollAnswer::PollNothing,
         ),
@@ -302,7 +309,7 @@ fn leave_network(mut nib: Nib, rejoin: bool) -> Nib
     if !rejoin {
         nib.network_address = nib::NWK_UNASSIGNED_ADDRESS;
         nib.extended_panid = ExtendedPanId(0);
-        nib.panid = PanId(0xffff);
+        nib.panid = nib::NO_PAN_ID;
         nib.update_id = 0;
         nib.parent_information = 0;
     } else if !nib.capability_information.device_type() {

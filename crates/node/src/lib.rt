@@ -81,7 +81,9 @@ pub struct Answer {
 // The answer to the outcome of a scan, with the confirm where a discovery has heard.
 #[derive(Clone, Copy)]
 pub struct ScanAnswer {
+    // what every call answers: the next state, and the request, confirm or refusal
     pub answer: Answer,
+    // the networks that were heard, where the step is `Discovered`; none with any other step
     pub confirm: Option<NlmeNetworkDiscoveryConfirm>,
 }
 

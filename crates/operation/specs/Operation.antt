@@ -36,48 +36,23 @@ idle_control n =
     }
 
 abbrev pub with_nlme : Nlme → Control → Control
-with_nlme n c = record { nlme = n; operation = c.operation }
+with_nlme n c = record c { nlme = n }
 
 abbrev pub with_operation : Operation → Control → Control
-with_operation o c = record { nlme = c.nlme; operation = o }
-
--- the operation awaits something, and has so many polls left; all else stays
-abbrev with : Phase → ℕ → Operation → Operation
-with p k o =
-    record {
-      phase = p;
-      extended_pan_id = o.extended_pan_id;
-      security_enabled = o.security_enabled;
-      scan = o.scan;
-      scan_requested = o.scan_requested;
-      channel = o.channel;
-      polls_left = k;
-    }
+with_operation o c = record c { operation = o }
 
 abbrev pub awaiting : Phase → Operation → Operation
-awaiting p o = with p o.polls_left o
+awaiting p o = record o { phase = p }
 
 abbrev pub with_polls : ℕ → Operation → Operation
-with_polls k o = with o.phase k o
+with_polls k o = record o { polls_left = k }
 
--- where a rejoin stands: whether the scan has been asked for, and the candidate's channel; all else stays
-abbrev rejoin_at : Bool → ℕ → Operation → Operation
-rejoin_at requested k o =
-    record {
-      phase = o.phase;
-      extended_pan_id = o.extended_pan_id;
-      security_enabled = o.security_enabled;
-      scan = o.scan;
-      scan_requested = requested;
-      channel = k;
-      polls_left = o.polls_left;
-    }
-
+-- where a rejoin stands: the candidate's channel, and that the scan has been asked for
 abbrev pub with_channel : ℕ → Operation → Operation
-with_channel k o = rejoin_at o.scan_requested k o
+with_channel k o = record o { channel = k }
 
 abbrev pub with_scan_requested : Operation → Operation
-with_scan_requested o = rejoin_at true o.channel o
+with_scan_requested o = record o { scan_requested = true }
 
 -- the control part awaits something else
 abbrev pub in_phase : Phase → Control → Control
@@ -154,15 +129,7 @@ ending s c = telling s (in_phase Phase.Idle c)
 -- a poll of the parent, for a purpose (Zigbee 3.6.6). It is the only step that uses a poll
 -- (01, "Code places and language forms": "polls used .. equal the poll requests")
 abbrev pub polled : Purpose → NwkNeighbor → Control → Decision
-polled u p c =
-    record {
-      control = in_phase (Phase.Reception u) c;
-      clear_potential_parent = false;
-      candidate = Move.Stay;
-      note = None;
-      step = Step.Ask (RadioRequest.Poll c.nlme.nib.panid p.network_address);
-      polls_used = 1;
-    }
+polled u p c = record (asking (Phase.Reception u) (RadioRequest.Poll c.nlme.nib.panid p.network_address) c) { polls_used = 1 }
 
 abbrev pub with_polls_left : ℕ → Control → Control
 with_polls_left k c = with_operation (with_polls k c.operation) c

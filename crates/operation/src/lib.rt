@@ -17,39 +17,53 @@ use nlme::{Nlme, Transmission};
 // What a timeout request is sent for.
 #[derive(Clone, Copy)]
 pub enum TimeoutFor {
+    // `negotiate_end_device_timeout`: its answer says why it failed
     Negotiation,
+    // `send_timeout_request_keepalive`: a failure, whatever the reason, signals ParentLinkFailure
     Keepalive,
 }
 
 // What a received frame is awaited for.
 #[derive(Clone, Copy)]
 pub enum Purpose {
+    // a rejoin's try: polls go on until its response, or until none is left
     RejoinResponse,
+    // `poll`: it answers what came
     SinglePoll,
+    // `receive`: it answers what came, and nothing is a radio error
     SingleReceive,
+    // a negotiation or a keepalive: polls go on until its response, or until none is left
     TimeoutResponse(TimeoutFor),
 }
 
 // What a scan is for.
 #[derive(Clone, Copy)]
 pub enum ScanFor {
+    // `start_discovery`: the table is made, and the confirm is answered
     Discovery,
+    // a rejoin: the table is made, and its candidates are tried
     Rejoin,
 }
 
 // A leave that is being announced: what the poll that brought it was for, which goes on afterwards, and its rejoin bit.
 #[derive(Clone, Copy)]
 pub struct Leaving {
+    // what the poll was for, which goes on once the leave is announced
     pub purpose: Purpose,
+    // whether the device is to rejoin; if not, it forgets its network
     pub rejoin: bool,
 }
 
 // What a transmission is for.
 #[derive(Clone, Copy)]
 pub enum TransmissionFor {
+    // a rejoin's try
     RejoinRequest,
+    // `send_data`
     Data,
+    // a negotiation or a keepalive
     TimeoutRequest(TimeoutFor),
+    // the announcement of this device's leave
     Leave(Leaving),
 }
 
@@ -57,57 +71,80 @@ pub enum TransmissionFor {
 // or the outcome of a scan, of an association, of a transmission, or of a poll or a receive.
 #[derive(Clone, Copy)]
 pub enum Phase {
+    // no operation is under way: an operation may be started
     Idle,
+    // `scan_over` is awaited
     Scan(ScanFor),
+    // `association_over` is awaited
     Association,
+    // `transmission_over` is awaited
     Transmission(TransmissionFor),
+    // `reception_over` is awaited
     Reception(Purpose),
 }
 
 // The operation under way: what it awaits, and what a rejoin keeps of its request and of its try.
 #[derive(Clone, Copy)]
 pub struct Operation {
+    // what is awaited
     pub phase: Phase,
+    // the network to rejoin; 0 for any
     pub extended_pan_id: ExtendedPanId,
+    // whether the rejoin request is sent secured
     pub security_enabled: bool,
+    // the channels to scan after the remembered parent
     pub scan: ScanRange,
     // the scan has been asked for: candidates are tried, and not the remembered parent
     pub scan_requested: bool,
     // the candidate's channel, 0 by the remembered parent
     pub channel: u8,
+    // how many polls for a response may still be made
     pub polls_left: u8,
 }
 
 // All of the state but the neighbour table and the candidates.
 #[derive(Clone, Copy)]
 pub struct Control {
+    // the node's own part: attributes, timer, signals, failure pairs
     pub nlme: Nlme,
+    // the operation under way
     pub operation: Operation,
 }
 
 // The request to associate with a candidate.
 #[derive(Clone, Copy)]
 pub struct AssociateRequest {
+    // the candidate's channel
     pub channel: u8,
+    // the candidate's PAN id
     pub pan_id: PanId,
+    // the candidate's short address
     pub address: ShortAddress,
+    // this device's capabilities, as the radio sends them
     pub capabilities: MacCapabilityInformation,
 }
 
 // What the radio is asked, with an outcome that is awaited.
 #[derive(Clone, Copy)]
 pub enum RadioRequest {
+    // a scan of these channels; the outcome goes to `scan_over`
     Scan(ScanRange),
+    // an association request to a candidate; the outcome goes to `association_over`
     Associate(AssociateRequest),
+    // a frame to send; the outcome goes to `transmission_over`
     Transmit(Transmission),
+    // a data request to this address in this PAN; what comes goes to `reception_over`
     Poll(PanId, ShortAddress),
+    // one frame without a data request; what comes goes to `reception_over`
     Receive,
 }
 
 // What the radio is told without an outcome: the set-channel or set-address note (01, "Join request and confirm").
 #[derive(Clone, Copy)]
 pub enum Note {
+    // tune to this channel before the request
     SetChannel(u8),
+    // this device has this short address from now on
     SetAddress(ShortAddress),
 }
 
@@ -140,18 +177,31 @@ impl Refusal {
 // What a call answers.
 #[derive(Clone, Copy)]
 pub enum Step {
+    // the call was turned down: the state is as handed in
     Refused(Refusal),
+    // the radio is asked, and its outcome is awaited
     Ask(RadioRequest),
+    // a discovery is over; the confirm stands beside the answer
     Discovered,
+    // a discovery is over: the scan failed, and the table is as it was
     DiscoveryFailed,
+    // a join or rejoin is over, with its confirm
     Joined(NlmeJoinConfirm),
+    // a data send is over
     Sent(SendAnswer),
+    // a poll or a receive is over
     Polled(PollAnswer),
+    // a negotiation is over
     NegotiationOver(NegotiationAnswer),
+    // a keepalive is over
     KeepaliveOver(KeepaliveAnswer),
+    // a tick was made: whether the parent's timer has just reached 0
     Expired(bool),
+    // the leave indication that stood in its slot
     LeaveTaken(Option<NlmeLeaveIndication>),
+    // the status indication that stood in its slot
     StatusTaken(Option<NlmeNwkStatusIndication>),
+    // the neighbour page stands in the lent buffer
     PageWritten,
     // what the call is for is done, and there is nothing to say of it
     Done,
@@ -163,28 +213,39 @@ pub enum Step {
 // it out.
 #[derive(Clone, Copy)]
 pub enum Move {
+    // nothing
     Stay,
+    // the next one is tried
     TakeNext,
+    // the next one is made the parent and tried
     AdoptNext,
+    // the one being tried becomes the parent
     JoinTried,
 }
 
 // A decision sees no table and no index: it says what is to be written, and the write finds its own index.
 #[derive(Clone, Copy)]
 pub struct Decision {
+    // the control part for the next call
     pub control: Control,
     // the candidate being tried is no longer a potential parent
     pub clear_potential_parent: bool,
+    // what is done with the candidates
     pub candidate: Move,
+    // what the radio is told without an outcome
     pub note: Option<Note>,
+    // the request, confirm or answer
     pub step: Step,
+    // 1 where the step is a poll, else 0
     pub polls_used: u8,
 }
 
 // The polls for a response: whom the next one asks, which is nobody once they are over, and the control part then.
 #[derive(Clone, Copy)]
 pub struct Polling {
+    // whom the next poll asks; nobody once the polls are over
     pub parent: Option<NwkNeighbor>,
+    // the control part, with one poll fewer left
     pub control: Control,
 }
 
@@ -220,7 +281,7 @@ pub fn with_nlme(control: Control, nlme: Nlme) -> Control
 }
 
 // How many polls are left.
-pub fn with_polls(mut control: Control, polls_left: u8) -> Control
+pub fn with_polls_left(mut control: Control, polls_left: u8) -> Control
     ensures { result ≡ with_polls_left polls_left control }
 {
     control.operation.polls_left = polls_left;
@@ -316,14 +377,14 @@ pub fn poll_parent(control: Control, purpose: Purpose, parent: NwkNeighbor) -> D
 
 // The next of the polls for a response. With no parent those left are used up at once.
 #[tactic(auto, unfolding(crate::specs::Operation::polling))]
-pub fn poll_on(control: Control, parent: Option<NwkNeighbor>) -> Polling
+fn take_poll(control: Control, parent: Option<NwkNeighbor>) -> Polling
     ensures { result ≡ polling parent control }
 {
     let left = control.operation.polls_left;
     match parent {
         None => Polling {
             parent,
-            control: with_polls(control, 0),
+            control: with_polls_left(control, 0),
         },
         Some(_) if left == 0 => Polling {
             parent: None,
@@ -331,7 +392,7 @@ pub fn poll_on(control: Control, parent: Option<NwkNeighbor>) -> Polling
         },
         Some(_) => Polling {
             parent,
-            control: with_polls(control, left - 1),
+            control: with_polls_left(control, left - 1),
         },
     }
 }
@@ -345,7 +406,7 @@ pub fn next_poll(
 ) -> Result<Decision, Control>
     ensures { result ≡ next_poll purpose parent control }
 {
-    let Polling { parent, control } = poll_on(control, parent);
+    let Polling { parent, control } = take_poll(control, parent);
     match parent {
         Some(parent) => Ok(poll_parent(control, purpose, parent)),
         None => Err(control),

@@ -8,8 +8,11 @@ ghost use Rattle.pieces.specs.Pieces.{line_taken, line_after, Usable};
 // What was taken of a piece: the place behind it, how many bytes of the line are kept now, and whether the line is ended.
 #[derive(Clone, Copy)]
 pub struct Taken {
+    // the place behind what was taken
     pub at: usize,
+    // how many bytes of the line are kept
     pub kept: usize,
+    // whether a line feed ended the line
     pub ended: bool,
 }
 

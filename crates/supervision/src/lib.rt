@@ -10,7 +10,7 @@ ghost use Rattle.supervision.specs.Failures.{pairs_of, failures_of, blank_pair, 
 
 pub mod parent_timer;
 
-use crate::parent_timer::ParentTimer;
+use crate::parent_timer::{PARENT_TIMEOUT_INACTIVE, ParentTimer};
 use nib::{MAX_NEIGBOUR_TABLE, ShortAddress};
 
 // The timeout of an index, in seconds.
@@ -41,7 +41,7 @@ pub fn refresh_parent_timeout(end_device_timeout: u8) -> ParentTimer
 {
     let timeout = negotiated_timeout_ms(end_device_timeout);
     ParentTimer {
-        remaining_ms: timeout.unwrap_or(0),
+        remaining_ms: timeout.unwrap_or(PARENT_TIMEOUT_INACTIVE),
     }
 }
 
@@ -57,8 +57,11 @@ pub fn keepalive_interval_ms(end_device_timeout: u8) -> Option<u32>
 // A case of its own and no `Option`: the source's enum has it, and callers decide among the three in one `match`.
 #[derive(Clone, Copy)]
 pub enum KeepaliveMethod {
+    // a poll
     MacDataPoll,
+    // an end device timeout request
     TimeoutRequest,
+    // none: no timeout is negotiated, or the parent takes neither
     NoKeepalive,
 }
 
@@ -104,7 +107,9 @@ pub const MAX_PARENT_TRANSMIT_FAILURES: u8 = 3;
 // A neighbour, and how many data sends through it failed since the last that succeeded.
 #[derive(Clone, Copy, Default)]
 pub struct TransmitFailure {
+    // its short address
     pub address: ShortAddress,
+    // how many sends failed
     pub count: u8,
 }
 
@@ -112,7 +117,9 @@ pub struct TransmitFailure {
 // An array with a count: there is no heap. Any count may be handed in: a type that bounds it would ask of the caller what refusal 5 answers now.
 #[derive(Clone, Copy)]
 pub struct TransmitFailures {
+    // the pairs, the oldest first
     pub pairs: [TransmitFailure; MAX_NEIGBOUR_TABLE as usize],
+    // how many are in use
     pub count: u8,
 }
 
@@ -141,7 +148,7 @@ impl TransmitFailures {
 
     // One pair more behind those in use, as `NeighborTable::add` has for entries: one for both would be handed the array and the count, and be no shorter.
     fn push(&mut self, p: TransmitFailure)
-        requires { self.old.count < 16 }
+        requires { self.old.count < MAX_NEIGBOUR_TABLE }
         ensures { self.new ≡ record { pairs = set self.old.pairs self.old.count p; count = self.old.count + 1 } }
     {
         self.pairs[self.count as usize] = p;
@@ -185,7 +192,7 @@ impl TransmitFailures {
     // The pairs with room for one more: of 16 the oldest goes.
     fn with_room(&self) -> TransmitFailures
         ensures pairs { result ≡ failures_of (with_room (pairs_of self.now)) }
-        ensures room { result.count < 16 }
+        ensures room { result.count < MAX_NEIGBOUR_TABLE }
     {
         if self.used().len() < self.pairs.len() {
             self.blank_unused()
@@ -198,14 +205,18 @@ impl TransmitFailures {
 // The pairs after one more failure, and the neighbour's count. Both always stand, so this is no Option.
 #[derive(Clone, Copy)]
 pub struct Recorded {
+    // the pairs then
     pub failures: TransmitFailures,
+    // the neighbour's count then
     pub total: u8,
 }
 
 // The pairs after a failed send, and whether the link counts as failed. Both always stand, so this is no Option.
 #[derive(Clone, Copy)]
 pub struct FailedSend {
+    // the pairs then
     pub failures: TransmitFailures,
+    // whether this failure is one too many
     pub link_failed: bool,
 }
 

@@ -67,9 +67,13 @@ use trace_lines::{Field, Word, put_line};
 // The session after the lines so far, how many they were, whether the last of them was of the format, and how many bytes it printed.
 #[derive(Clone, Copy)]
 pub struct Run {
+    // what stands between two lines
     pub session: Session,
+    // how many lines were answered
     pub number: u32,
+    // whether the last of them was of the format
     pub good: bool,
+    // how many bytes it printed
     pub length: usize,
 }
 

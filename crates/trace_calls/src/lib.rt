@@ -24,18 +24,24 @@ use trace_input::{Call, NodeFields};
 // Which lines may come next where no beacon is due: a `node` line alone; further lines of the state, or calls; calls.
 #[derive(Clone, Copy)]
 pub enum Stage {
+    // before the first `node` line
     NoNode,
+    // after a `node` line, before the first call
     SettingUp,
+    // after the first call
     Running,
 }
 
 // What stands between two lines.
 #[derive(Clone, Copy)]
 pub struct Session {
+    // the node's state
     pub state: State,
+    // which lines may come
     pub stage: Stage,
     // the beacons of a scan that are still to come. No case of `Stage` holds them with `scan`, since the beacons of the last scan stay in the session
     pub missing: u32,
+    // the beacons of the last scan
     pub scan: PanDescriptorList,
 }
 
@@ -44,7 +50,9 @@ pub struct Session {
 pub struct Answered {
     // the reset note
     pub reset: bool,
+    // what the radio is told without an outcome
     pub note: Option<Note>,
+    // the request, confirm, answer or refusal
     pub step: Step,
     // the networks that a discovery found
     pub networks: Option<NlmeNetworkDiscoveryConfirm>,
@@ -55,8 +63,11 @@ pub struct Answered {
 pub enum Said {
     // it is not of the format
     Bad,
+    // nothing: the line sets up the state, or a beacon is still to come
     Nothing,
+    // a call's answer
     Told(Answered),
+    // the candidates, or the refusal
     Chosen(Result<CandidateList, Refusal>),
     // the state
     Shown,
@@ -67,7 +78,9 @@ pub enum Said {
 // The session after a line, and what the line says.
 #[derive(Clone, Copy)]
 pub struct Turn {
+    // the session for the next line
     pub session: Session,
+    // what is printed
     pub said: Said,
 }
 

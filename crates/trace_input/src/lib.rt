@@ -23,39 +23,69 @@ use trace_lines::{InputKind, InputLine};
 // What a `node` line gives.
 #[derive(Clone, Copy)]
 pub struct NodeFields {
+    // the attributes
     pub nib: Nib,
+    // the last sequence number used
     pub nwk_seq: u8,
+    // the index of a timeout request that awaits its response
     pub pending_timeout_request: u8,
+    // the milliseconds that the parent's timer has left
     pub remaining_ms: u32,
 }
 
 // What a line of the input says.
 #[derive(Clone, Copy)]
 pub enum Call {
+    // `node`: a state begins
     Node(NodeFields),
+    // `e`: a neighbour entry more
     Entry(NwkNeighbor),
+    // `f`: a failure pair more
     Failure(TransmitFailure),
+    // `discovery`
     Discovery(ScanRange),
+    // `join`
     Join(NlmeJoinRequest),
-    Send(ShortAddress, bool),
+    Send {
+        destination: ShortAddress,
+        secure: bool,
+    },
+    // `poll`
     Poll,
+    // `receive`
     Receive,
+    // `negotiate`
     Negotiate,
+    // `keepalive`
     Keepalive,
     // how many beacons follow
     Scan(u32),
+    // `b`: a scan's next beacon
     Beacon(PanDescriptor),
+    // `scanfail`
     ScanFailed,
+    // `associate`, `associatefail`
     Association(Result<AssociationResponse, MacError>),
+    // `sent`, `sendfail`: whether the frame was sent
     Transmission(bool),
+    // `nodata`, `pollfail`, or a frame
     Reception(Result<Option<ReceivedFrame>, MacError>),
+    // `tick`: the milliseconds since the last one
     Tick(u32),
+    // `takeleave`
     TakeLeave,
+    // `takestatus`
     TakeStatus,
-    Choose(ExtendedPanId, bool, bool),
+    Choose {
+        extended_pan_id: ExtendedPanId,
+        join_as_router: bool,
+        require_permit_joining: bool,
+    },
+    // `state`
     PrintState,
     // the length of the lent buffer
     Page(u16),
+    // `refresh`
     Refresh,
 }
 
@@ -388,16 +418,21 @@ pub fn call_of(line: InputLine) -> Call
         InputKind::OtherFrame => received(ReceivedFrame::OtherFrame),
         InputKind::Discovery => Call::Discovery(range_of(line, 1)),
         InputKind::Join => Call::Join(join_request_of(line)),
-        InputKind::Send => Call::Send(short(line, 1), flag(line, 2)),
+        InputKind::Send => Call::Send {
+            destination: short(line, 1),
+            secure: flag(line, 2),
+        },
         InputKind::Poll => Call::Poll,
         InputKind::Receive => Call::Receive,
         InputKind::Negotiate => Call::Negotiate,
         InputKind::Keepalive => Call::Keepalive,
         InputKind::TakeLeave => Call::TakeLeave,
         InputKind::TakeStatus => Call::TakeStatus,
-        InputKind::Candidates => {
-            Call::Choose(extended_pan_id_at(line, 1), flag(line, 2), flag(line, 3))
-        }
+        InputKind::Candidates => Call::Choose {
+            extended_pan_id: extended_pan_id_at(line, 1),
+            join_as_router: flag(line, 2),
+            require_permit_joining: flag(line, 3),
+        },
         InputKind::State => Call::PrintState,
         InputKind::Pair => Call::Failure(failure_of(line)),
         InputKind::Page => Call::Page(bits16(line, 1)),

@@ -134,6 +134,3 @@ unfolding line_text
 line-short line =
     let fs = take 20 line in
     omega (arith, length-append (joined (map field_text fs)) (10 ∷ []), joined-long (map field_text fs) (texts-short fs), length-map fs field_text, length-take 20 line)
-
--- for a line that is written by itself
-pub ruleset by_itself = (from_start, same_buffer, line-short, over-take)

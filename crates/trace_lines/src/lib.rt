@@ -2,8 +2,6 @@
 #![tactic(auto)]
 
 ghost use Rattle.std.specs.Prelude.{◌≡◌, ◌++◌, cond, ◌≤◌, length, map};
-ghost use Rattle.std.proofs.lemmas.List.Edits.{sets};
-ghost use Rattle.lists.specs.Lists.{over};
 ghost use Rattle.text.specs.Text.{bytes, fields, same_text, hex_of, hex_text};
 ghost use Rattle.text.specs.Writer.{with_text};
 ghost use Rattle.trace_lines.specs.TraceLines.{word_of, letters_of, greatest, number_of, is_dash, line_of, word_text, or_dash_text, flag_text, field_text, joined, line_text};
@@ -14,39 +12,73 @@ use text::writer::Writer;
 // The kinds of lines that are read.
 #[derive(Clone, Copy)]
 pub enum InputKind {
+    // `e`: a neighbour entry
     Entry,
+    // `b`: a beacon whose sender has a short address
     ShortBeacon,
+    // `b`: a beacon whose sender has an IEEE address alone
     ExtendedBeacon,
+    // `nodata`: a poll or receive brought nothing
     NoData,
+    // `sent`: the frame was sent
     Sent,
+    // `tick`: milliseconds have passed
     Tick,
+    // `node`: a state begins
     Node,
+    // `scan`: a scan is over, and its beacons follow
     Scan,
+    // `sendfail`: the frame was not sent
     SendFailed,
+    // `scanfail`: the scan failed
     ScanFailed,
+    // `pollfail`: the poll or receive failed
     PollFailed,
+    // `associate`: a candidate answered
     Associated,
+    // `associatefail`: the radio failed
     AssociateFailed,
+    // `undecodable`: a frame came that can't be decoded
     Undecodable,
+    // `data`: a data frame came
     Data,
+    // `rejoinresponse`: a rejoin response came
     RejoinResponse,
+    // `timeoutresponse`: a timeout response came
     TimeoutResponse,
+    // `leave`: a leave command came
     Leave,
+    // `command`: another command came
     Command,
+    // `otherframe`: a frame of another kind came
     OtherFrame,
+    // `discovery`: a discovery starts
     Discovery,
+    // `join`: a join or rejoin starts
     Join,
+    // `send`: a data send starts
     Send,
+    // `poll`: a poll starts
     Poll,
+    // `receive`: a receive starts
     Receive,
+    // `negotiate`: a negotiation starts
     Negotiate,
+    // `keepalive`: a keepalive starts
     Keepalive,
+    // `takeleave`: the leave indication is taken
     TakeLeave,
+    // `takestatus`: the status indication is taken
     TakeStatus,
+    // `candidates`: candidates are chosen
     Candidates,
+    // `state`: the state is printed
     State,
+    // `f`: a failure pair
     Pair,
+    // `page`: the neighbour page is printed
     Page,
+    // `refresh`: the parent's timer is restarted
     Refresh,
 }
 
@@ -88,13 +120,19 @@ const KINDS: [InputKind; 34] = [
     InputKind::Refresh,
 ];
 
+// How many fields a line has at most, its word included.
+const MAX_FIELDS: usize = 20;
+
 // A line that is read: its kind and the numbers in its fields. `dash` says that the field for an IEEE address is `-`. It is a flag, since one field of a line
 // at most may be a dash: as options all twenty numbers would be.
 #[derive(Clone, Copy)]
 pub struct InputLine {
+    // which line it is
     pub kind: InputKind,
+    // the field for an IEEE address is `-`
     pub dash: bool,
-    pub numbers: [u64; 20],
+    // number i is that of field i, from 1; 0 where a field has none
+    pub numbers: [u64; MAX_FIELDS],
 }
 
 impl InputKind {
@@ -170,7 +208,7 @@ impl InputKind {
 }
 
 // The greatest decimal number of a letter.
-fn most(letter: u8) -> u32
+fn greatest(letter: u8) -> u32
     ensures { result ≡ greatest letter }
 {
     match letter {
@@ -206,7 +244,7 @@ fn read_number(letter: u8, f: &[u8]) -> Option<u64>
         b'o' => read_or_dash(f),
         b'2' => (f == b"2".as_slice()).then_some(2),
         b'3' => (f == b"3".as_slice()).then_some(3),
-        _ => text::decimal(f, most(letter)),
+        _ => text::decimal(f, greatest(letter)),
     }
 }
 
@@ -226,7 +264,7 @@ fn read_as(kind: InputKind, line: &[u8]) -> Option<InputLine>
         return None;
     }
     let further = line.split(|b| *b == b'\t').skip(1);
-    let mut numbers = [0u64; 20];
+    let mut numbers = [0u64; MAX_FIELDS];
     let mut dash = false;
     for (i, (f, letter)) in further.zip(letters).enumerate() {
         numbers[i + 1] = read_number(*letter, f)?;
@@ -312,13 +350,21 @@ pub enum Word {
 // A field of a line that is written: a word; 4 hexadecimal digits, 16, or 16 or a dash; a flag, 0 or 1; or a decimal number of a type.
 #[derive(Clone, Copy)]
 pub enum Field {
+    // a word
     Word(Word),
+    // 4 hexadecimal digits
     Short(u16),
+    // 16 hexadecimal digits
     Long(u64),
+    // 16 hexadecimal digits, or a dash for none
     OrDash(Option<u64>),
+    // 1 or 0
     Flag(bool),
+    // a decimal number
     U8(u8),
+    // a decimal number
     U16(u16),
+    // a decimal number
     U32(u32),
 }
 
@@ -439,26 +485,6 @@ fn write_fields(out: &mut Writer, line: &[Field])
 pub fn put_line(out: &mut Writer, line: &[Field])
     ensures { out.new ≡ with_text out.old (line_text line.now) }
 {
-    write_fields(out, lists::in_use(line, 20));
+    write_fields(out, lists::in_use(line, MAX_FIELDS));
     out.write(b"\n");
-}
-
-// Writes a line at the start of bytes that are enough for any, and returns its length.
-#[tactic(auto, using(crate::proofs::Texts::by_itself))]
-fn fill_line(bytes: &mut [u8; 420], line: &[Field]) -> usize
-    ensures { (result ≡ length (line_text line.now)) × (bytes.new ≡ over bytes.old (line_text line.now)) }
-{
-    let mut out = Writer::new(bytes);
-    put_line(&mut out, line);
-    out.place()
-}
-
-// Writes a line at a place of a buffer, as far as it fits, and returns its length: that of all the line, which `put_line` does not give.
-#[tactic(auto, using(crate::proofs::Texts::by_itself))]
-pub fn write_line(out: &mut [u8], at: u16, line: &[Field]) -> usize
-    ensures { (result ≡ length (line_text line.now)) × (out.new ≡ sets out.old at (line_text line.now)) }
-{
-    let mut bytes = [0; 420];
-    let length = fill_line(&mut bytes, line);
-    text::write(out, usize::from(at), &bytes[..length])
 }

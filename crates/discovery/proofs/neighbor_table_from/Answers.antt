@@ -17,7 +17,7 @@ loop-pd-init c = c.new-table.ensures
 pub loop-pd-preserved : goal.loop-pd-preserved
 unfolding present
 loop-pd-preserved c =
-    let l = c.in_use-pd-items.result.now in
+    let l = c.descriptors_in_use-pd-items.result.now in
     let i = c.loop-pd.pd-index in
     let e = neighbors-next l i no_descriptor c.loop-pd-test.true in
     elim c.match-neighbor_from.branch [

@@ -1,3 +1,4 @@
+-- What `neighbor_table_from` knows at each turn of its loop.
 use Rattle.std.proofs.Common.{◌≡◌, take}
 use Rattle.nib.specs.Neighbors.{table_of}
 use Rattle.discovery.specs.Discovery.{neighbors_of}

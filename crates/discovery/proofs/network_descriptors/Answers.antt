@@ -9,4 +9,4 @@ use Rattle.discovery.proofs.network_descriptors.Goals as goal
 pub loop-i-preserved : goal.loop-i-preserved
 loop-i-preserved c =
     rw (c.loop-i.invariant, c.from.ensures)
-    (map_next network_descriptor_of (replicate 27 blank_descriptor) c.in_use-used.result.now c.loop-i.i no_descriptor c.loop-i-test.true (omega (arith, c.in_use-used.ensures.few)))
+    (map_next network_descriptor_of (replicate 27 blank_descriptor) c.descriptors_in_use-used.result.now c.loop-i.i no_descriptor c.loop-i-test.true (omega (arith, c.descriptors_in_use-used.ensures.few)))

@@ -1,3 +1,4 @@
+-- What `network_descriptors` knows at each turn of its loop.
 use Rattle.std.proofs.Common.{◌≡◌, take, map, replicate}
 use Rattle.lists.specs.Lists.{over}
 use Rattle.discovery.specs.Discovery.{network_descriptor_of, blank_descriptor}

@@ -1,3 +1,4 @@
+-- What `rows_of` knows at each turn of its loop.
 use Rattle.std.proofs.Common.{◌≡◌, length}
 use Rattle.nib.specs.Neighbors.{entries_of}
 use Rattle.lists.specs.Lists.{over}

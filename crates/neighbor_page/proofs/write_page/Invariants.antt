@@ -1,3 +1,4 @@
+-- What `write_page` knows at each turn of its loop.
 use Rattle.std.proofs.Common.{◌≡◌, take}
 use Rattle.std.proofs.lemmas.List.Edits.{sets}
 use mathlib.Core.List.{flat_map}

@@ -1,3 +1,4 @@
+-- What `number` knows at each turn of its loop.
 use Prim.Native.Nat.{◌≤◌}
 use mathlib.Core.Path.{◌≡◌}
 use lib.ListN.{drop}

@@ -1,3 +1,4 @@
+-- What `print_candidates` knows at each turn of its loop.
 use Prim.Native.Nat.{◌+◌}
 use mathlib.Core.Path.{◌≡◌}
 use mathlib.Core.List.{◌∷◌, map}

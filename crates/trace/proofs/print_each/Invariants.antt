@@ -1,3 +1,4 @@
+-- What `print_each` knows at each turn of its loop.
 use mathlib.Core.Path.{◌≡◌}
 use lib.ListN.{take}
 use Rattle.text.specs.Writer.{with_text}

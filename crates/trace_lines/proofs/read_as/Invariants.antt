@@ -1,3 +1,4 @@
+-- What `read_as` knows at each turn of its loop.
 use lib.ListN.{length}
 use Rattle.text.specs.Text.{fields}
 use Rattle.trace_lines.proofs.Lines.{ReadSoFar}

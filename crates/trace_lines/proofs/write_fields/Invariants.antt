@@ -1,3 +1,4 @@
+-- What `write_fields` knows at each turn of its loop.
 use mathlib.Core.Path.{◌≡◌}
 use mathlib.Core.List.{map}
 use lib.ListN.{take}

@@ -1,3 +1,4 @@
+-- What `write_rows` knows at each turn of its loop.
 use mathlib.Core.Path.{◌≡◌}
 use lib.ListN.{take}
 use Rattle.text.specs.Writer.{with_text}

@@ -23,7 +23,7 @@ returns c =
     let n = c.args.count in
     let k = c.args.candidates in
     let items = items_of k.list in
-    let left : position (λ i. ltb i n) c.left-to_try.result.now ≡ position (λ i. ltb i n) (to_try k) = ap (position (λ i. ltb i n)) c.left-to_try.ensures in
+    let left : position (λ i. ltb i n) c.tail-to_try.result.now ≡ position (λ i. ltb i n) (to_try k) = ap (position (λ i. ltb i n)) c.tail-to_try.ensures in
     let e : c.match-place_below.taken ≡ min (k.taken + skipped n k + 1) (length items) =
     elim c.match-place_below.branch [
       | in-Some w ↦ let f = w.in-Some.ensures ∙ left in

@@ -1,3 +1,4 @@
+-- What `change_all` knows at each turn of its loop.
 use Rattle.std.proofs.Common.{◌≡◌, map}
 use Rattle.lists.specs.Lists.{on_front}
 use Rattle.nib.specs.declared.NwkNeighbor.{NwkNeighbor}

@@ -1,3 +1,4 @@
+-- What `retain` knows at each turn of its loop.
 use Rattle.std.proofs.Common.{◌≡◌, take}
 use Rattle.nib.specs.Neighbors.{table_of}
 use Rattle.nib.specs.NeighborTable.{retained}

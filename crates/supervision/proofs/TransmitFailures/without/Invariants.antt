@@ -1,3 +1,4 @@
+-- What `without` knows at each turn of its loop.
 use Rattle.std.proofs.Common.{◌≡◌, take}
 use Rattle.lists.specs.Private.{remove_at}
 use Rattle.supervision.specs.Failures.{failures_of}
