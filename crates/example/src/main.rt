@@ -59,7 +59,7 @@ fn beacon(router: u16, stack_profile: u16) -> PanDescriptor {
     }
 }
 
-fn heard(near_is_on: bool) -> PanDescriptorList {
+fn beacons(near_is_on: bool) -> PanDescriptorList {
     let far = beacon(FAR, DEPTH_2);
     let mut descriptors = [far; MAX_PAN_DESCRIPTOR_SIZE];
     if near_is_on {
@@ -92,7 +92,7 @@ fn polled(router: ShortAddress) -> ReceivedFrame {
 fn carry_out(state: State, request: RadioRequest, near_is_on: bool) -> Answer {
     match request {
         // beside the answer stands the confirm of a discovery, with the networks that were heard; this plug knows which one it wants
-        RadioRequest::Scan(_) => state.scan_over(Ok(heard(near_is_on))).answer,
+        RadioRequest::Scan(_) => state.scan_over(Ok(beacons(near_is_on))).answer,
         RadioRequest::Associate(_) => state.association_over(Ok(AssociationResponse {
             status: 0,
             association_address: ShortAddress(0x5678),
@@ -221,7 +221,8 @@ fn blank() -> State {
 // Sends data to the coordinator, and answers the state then.
 fn send(edges: &Edges<HostRuntime>, state: State, near_is_on: bool) -> Result<State, Failed> {
     edges.write(b"send\n")?;
-    settle(edges, state.send_data(ShortAddress(0), true), near_is_on)
+    let secure = true;
+    settle(edges, state.send_data(ShortAddress(0), secure), near_is_on)
 }
 
 // Goes through the day. With the near router off the third transmission that fails is one too many: the parent is lost, and the plug rejoins by the far router.

@@ -11,7 +11,7 @@ use Rattle.candidates.specs.Candidates.{candidates, eligible, depth_at}
 use Rattle.supervision.specs.Timer.{ticked}
 use Rattle.supervision.specs.Timeouts.{timeout_seconds, negotiated_timeout_ms, refreshed}
 use Rattle.nlme.specs.Received.{accepts_leave}
-use Rattle.marked_cases.specs.MarkedCases.{candidates_of_none, tick_of, leave_of, answer, Case, marked, Hold, yard}
+use Rattle.marked_cases.specs.MarkedCases.{candidates_of_none, tick_of, leave_of, answer_to, Case, cases, Hold, yard}
 
 abbrev same : List ℕ → List ℕ → Bool
 same [] [] = true
@@ -31,18 +31,18 @@ same-eq (x ∷ xs) (y ∷ ys) h = let s = split (eqb x y) (same xs ys) h in λ i
 
 abbrev right : List Case → Bool
 right [] = true
-right (c ∷ cs) = same (answer c.asked) c.expected && right cs
+right (c ∷ cs) = same (answer_to c.asked) c.expected && right cs
 
 hold : (cs : List Case) → T (right cs) → Hold cs
 hold [] h = tt
 hold (c ∷ cs) h =
-    let s = split (same (answer c.asked) c.expected) (right cs) h in
-    (same-eq (answer c.asked) c.expected s.0, hold cs s.1)
+    let s = split (same (answer_to c.asked) c.expected) (right cs) h in
+    (same-eq (answer_to c.asked) c.expected s.0, hold cs s.1)
 
 -- P1 to P12
-pub marked-hold : Hold marked
+pub marked-hold : Hold cases
 unfolding link_cost newer newest candidates eligible depth_at ticked timeout_seconds negotiated_timeout_ms refreshed accepts_leave
-marked-hold = hold marked tt
+marked-hold = hold cases tt
 
 -- the printed example: index 3, then index 1
 pub yard-list : candidates 1 false true 0xaa yard ≡ 3 ∷ 1 ∷ []
@@ -51,7 +51,7 @@ yard-list = refl
 
 -- P7, P10 and P12 for everything that they leave open
 
-pub empty-table : (profile : ℕ) (router permit : Bool) (n : ℕ) → answer (candidates_of_none profile router permit n) ≡ []
+pub empty-table : (profile : ℕ) (router permit : Bool) (n : ℕ) → answer_to (candidates_of_none profile router permit n) ≡ []
 unfolding candidates
 empty-table profile router permit n = go (eqb profile 1)
   where
@@ -65,12 +65,12 @@ empty-table profile router permit n = go (eqb profile 1)
 none_left : (m : ℕ) → 0 - m ≡ 0
 none_left m = omega arith
 
-pub never-expires : (elapsed : ℕ) → answer (tick_of 0 elapsed) ≡ 0 ∷ 0 ∷ []
+pub never-expires : (elapsed : ℕ) → answer_to (tick_of 0 elapsed) ≡ 0 ∷ 0 ∷ []
 unfolding ticked
 never-expires elapsed = ap (λ (ms : ℕ). ms ∷ 0 ∷ []) (none_left (max elapsed 1))
 
 -- a request to 0xfff8 is dropped at every address
-pub broadcast-dropped : (address : ℕ) (router allowed by_parent : Bool) → answer (leave_of address 0xfff8 router allowed by_parent) ≡ 0 ∷ []
+pub broadcast-dropped : (address : ℕ) (router allowed by_parent : Bool) → answer_to (leave_of address 0xfff8 router allowed by_parent) ≡ 0 ∷ []
 unfolding accepts_leave
 broadcast-dropped address router allowed by_parent = go (eqb address 0) (cond (bit 1 (cond router 2 0)) allowed by_parent)
   where
@@ -82,12 +82,12 @@ broadcast-dropped address router allowed by_parent = go (eqb address 0) (cond (b
     go false c = refl
 
 -- at 0x0000 every request is
-pub coordinator-drops : (destination : ℕ) (router allowed by_parent : Bool) → answer (leave_of 0x0000 destination router allowed by_parent) ≡ 0 ∷ []
+pub coordinator-drops : (destination : ℕ) (router allowed by_parent : Bool) → answer_to (leave_of 0x0000 destination router allowed by_parent) ≡ 0 ∷ []
 unfolding accepts_leave
 coordinator-drops destination router allowed by_parent = refl
 
 -- and at 0x1234 one to 0xfff7 goes on to the role tests
-pub role-tested : (router allowed by_parent : Bool) → answer (leave_of 0x1234 0xfff7 router allowed by_parent) ≡ cond (cond router allowed by_parent) 1 0 ∷ []
+pub role-tested : (router allowed by_parent : Bool) → answer_to (leave_of 0x1234 0xfff7 router allowed by_parent) ≡ cond (cond router allowed by_parent) 1 0 ∷ []
 unfolding accepts_leave
 role-tested true allowed by_parent = refl
 role-tested false allowed by_parent = refl

@@ -39,8 +39,8 @@ entry n depth permit router device lqi id =
     }
 
 -- an entry of network 1 with an update id: a potential parent that permits joining, has capacity and costs 1
-abbrev pub heard : ℕ → NwkNeighbor
-heard id = entry 1 0 true true true 255 id
+abbrev pub entry_with_id : ℕ → NwkNeighbor
+entry_with_id id = entry 1 0 true true true 255 id
 
 -- what a case asks for
 pub data Question : Type 0 where
@@ -49,13 +49,13 @@ pub data Question : Type 0 where
   -- the cost of an LQI
   cost_of : ℕ → Question
   -- the candidates of an empty table, by stack profile, role, whether joining must be permitted, and network
-  candidates_of_none : ℕ → Bool → Bool → ℕ → Question
+  candidates_of_none : (profile : ℕ) (router permit : Bool) (n : ℕ) → Question
   -- the milliseconds of a timeout index
   timer_of : ℕ → Question
   -- what a tick leaves of a timer, and whether it expired: milliseconds left, milliseconds elapsed
   tick_of : ℕ → ℕ → Question
   -- whether a leave request is accepted: own address, destination, router, nwkLeaveRequestAllowed, and whether the parent asks
-  leave_of : ℕ → ℕ → Bool → Bool → Bool → Question
+  leave_of : (address destination : ℕ) (router allowed by_parent : Bool) → Question
 
 abbrev pub ids_of : Option ℕ → List ℕ
 ids_of None = []
@@ -82,13 +82,13 @@ node_at address router allowed =
     }
 
 -- what the definitions answer
-abbrev pub answer : Question → List ℕ
-answer (newest_of ids) = ids_of (newest true 1 (map heard ids))
-answer (cost_of lqi) = link_cost lqi ∷ []
-answer (candidates_of_none profile router permit n) = candidates profile router permit n []
-answer (timer_of index) = (refreshed index).remaining_ms ∷ []
-answer (tick_of ms elapsed) = tick_numbers (ticked (record { remaining_ms = ms }) elapsed)
-answer (leave_of address destination router allowed by_parent) =
+abbrev pub answer_to : Question → List ℕ
+answer_to (newest_of ids) = ids_of (newest true 1 (map entry_with_id ids))
+answer_to (cost_of lqi) = link_cost lqi ∷ []
+answer_to (candidates_of_none profile router permit n) = candidates profile router permit n []
+answer_to (timer_of index) = (refreshed index).remaining_ms ∷ []
+answer_to (tick_of ms elapsed) = tick_numbers (ticked (record { remaining_ms = ms }) elapsed)
+answer_to (leave_of address destination router allowed by_parent) =
     cond (accepts_leave (node_at address router allowed) (record { 0 = destination }) by_parent) 1 0 ∷ []
 
 pub record Case : Type 0 where
@@ -98,8 +98,8 @@ pub record Case : Type 0 where
 abbrev pub case : Question → List ℕ → Case
 case q a = record { asked = q; expected = a }
 
-abbrev pub marked : List Case
-marked =
+abbrev pub cases : List Case
+cases =
     -- P1 to P5
     case (newest_of (255 ∷ 0 ∷ [])) (0 ∷ [])
     ∷ case (newest_of (0 ∷ 128 ∷ [])) (0 ∷ [])
@@ -138,7 +138,7 @@ marked =
 
 -- the common statement: each case's answer is the expected one
 abbrev pub Hold : List Case → Type 0
-Hold cs = All (λ c. answer c.asked ≡ c.expected) cs
+Hold cs = All (λ c. answer_to c.asked ≡ c.expected) cs
 
 -- the printed example of the yard list, by the fields that the choice reads
 abbrev pub yard : List NwkNeighbor

@@ -20,30 +20,30 @@ const USAGE: &[u8] = b"Usage: tables\n\
     \n\
     docs/SCOPE.md has the rules behind them. Any argument prints this text.\n";
 
-fn print(edges: &Edges<HostRuntime>, n: u32) -> Result<(), Failed> {
+fn print_number(edges: &Edges<HostRuntime>, n: u32) -> Result<(), Failed> {
     let mut digits = [0u8; 10];
     let count = text::write_decimal(&mut digits, 0, n);
     edges.write(&digits[..count])
 }
 
-fn number(edges: &Edges<HostRuntime>, n: u8) -> Result<(), Failed> {
+fn print_field(edges: &Edges<HostRuntime>, n: u8) -> Result<(), Failed> {
     edges.write(b"\t")?;
-    print(edges, u32::from(n))
+    print_number(edges, u32::from(n))
 }
 
-fn flag(edges: &Edges<HostRuntime>, b: bool) -> Result<(), Failed> {
-    number(edges, u8::from(b))
+fn print_flag(edges: &Edges<HostRuntime>, b: bool) -> Result<(), Failed> {
+    print_field(edges, u8::from(b))
 }
 
-fn period(edges: &Edges<HostRuntime>, p: Option<u32>) -> Result<(), Failed> {
+fn print_period(edges: &Edges<HostRuntime>, p: Option<u32>) -> Result<(), Failed> {
     edges.write(b"\t")?;
     match p {
         None => edges.write(b"-"),
-        Some(n) => print(edges, n),
+        Some(n) => print_number(edges, n),
     }
 }
 
-fn association(edges: &Edges<HostRuntime>, status: u8) -> Result<(), Failed> {
+fn print_association(edges: &Edges<HostRuntime>, status: u8) -> Result<(), Failed> {
     if status == 0 {
         return edges.write(b"\tSuccess");
     }
@@ -55,18 +55,18 @@ fn association(edges: &Edges<HostRuntime>, status: u8) -> Result<(), Failed> {
     }
 }
 
-fn row(edges: &Edges<HostRuntime>, byte: u8) -> Result<(), Failed> {
+fn print_row(edges: &Edges<HostRuntime>, byte: u8) -> Result<(), Failed> {
     let capability = CapabilityInformation(byte);
-    print(edges, u32::from(byte))?;
-    number(edges, nib::link_cost_from_lqi(byte))?;
-    flag(edges, capability.device_type())?;
-    flag(edges, capability.power_source())?;
-    flag(edges, capability.receiver_on_when_idle())?;
-    flag(edges, capability.security_capability())?;
-    flag(edges, capability.allocate_address())?;
-    period(edges, supervision::timeout_seconds(byte))?;
-    period(edges, supervision::negotiated_timeout_ms(byte))?;
-    association(edges, byte)?;
+    print_number(edges, u32::from(byte))?;
+    print_field(edges, nib::link_cost_from_lqi(byte))?;
+    print_flag(edges, capability.device_type())?;
+    print_flag(edges, capability.power_source())?;
+    print_flag(edges, capability.receiver_on_when_idle())?;
+    print_flag(edges, capability.security_capability())?;
+    print_flag(edges, capability.allocate_address())?;
+    print_period(edges, supervision::timeout_seconds(byte))?;
+    print_period(edges, supervision::negotiated_timeout_ms(byte))?;
+    print_association(edges, byte)?;
     edges.write(b"\n")
 }
 
@@ -76,7 +76,7 @@ fn print_tables(edges: &Edges<HostRuntime>) -> Result<(), Failed> {
         b"byte\tcost\trouter\tmains\treceiver\tsecurity\tallocate\tseconds\tmilliseconds\tassociation\n",
     )?;
     for byte in 0..=255 {
-        row(edges, byte)?;
+        print_row(edges, byte)?;
     }
     Ok(())
 }

@@ -28,62 +28,62 @@ use Rattle.join.specs.declared.association.AssociationResponse.{AssociationRespo
 use Rattle.trace_lines.specs.declared.InputKind.{InputKind}
 use Rattle.trace_lines.specs.declared.InputKind.TheVariants as kind
 use Rattle.trace_lines.specs.declared.InputLine.{InputLine}
-use Rattle.trace_input.specs.declared.Call.{Call}
-use Rattle.trace_input.specs.declared.Call.TheVariants as call
+use Rattle.trace_input.specs.declared.TraceCall.{TraceCall}
+use Rattle.trace_input.specs.declared.TraceCall.TheVariants as call
 use Rattle.trace_input.specs.declared.NodeFields.{NodeFields}
 use Rattle.discovery.specs.Mlme.{mac_error}
 
 -- the number in field k (field 0 is the line's word), and what its type holds of it: the fields of a line that was read fit their types
-abbrev pub field : ℕ → InputLine → ℕ
-field k l = get_or l.numbers k 0
+abbrev pub number_at : ℕ → InputLine → ℕ
+number_at k l = get_or l.numbers k 0
 
 abbrev pub bits4 : ℕ → InputLine → ℕ
-bits4 k l = field k l % 16
+bits4 k l = number_at k l % 16
 
 abbrev pub bits8 : ℕ → InputLine → ℕ
-bits8 k l = field k l % 256
+bits8 k l = number_at k l % 256
 
 abbrev pub bits16 : ℕ → InputLine → ℕ
-bits16 k l = field k l % 65536
+bits16 k l = number_at k l % 65536
 
 abbrev pub bits32 : ℕ → InputLine → ℕ
-bits32 k l = field k l % 4294967296
+bits32 k l = number_at k l % 4294967296
 
 -- a flag, and the identifiers
-abbrev pub flag : ℕ → InputLine → Bool
-flag k l = eqb (field k l) 1
+abbrev pub flag_at : ℕ → InputLine → Bool
+flag_at k l = eqb (number_at k l) 1
 
-abbrev pub short : ℕ → InputLine → ShortAddress
-short k l = record { 0 = bits16 k l }
+abbrev pub short_at : ℕ → InputLine → ShortAddress
+short_at k l = record { 0 = bits16 k l }
 
 abbrev pub pan_id_at : ℕ → InputLine → PanId
 pan_id_at k l = record { 0 = bits16 k l }
 
-abbrev pub ieee : ℕ → InputLine → IeeeAddress
-ieee k l = record { 0 = field k l }
+abbrev pub ieee_at : ℕ → InputLine → IeeeAddress
+ieee_at k l = record { 0 = number_at k l }
 
 abbrev pub extended_pan_id_at : ℕ → InputLine → ExtendedPanId
-extended_pan_id_at k l = record { 0 = field k l }
+extended_pan_id_at k l = record { 0 = number_at k l }
 
-abbrev pub capabilities : ℕ → InputLine → CapabilityInformation
-capabilities k l = record { 0 = bits8 k l }
+abbrev pub capabilities_at : ℕ → InputLine → CapabilityInformation
+capabilities_at k l = record { 0 = bits8 k l }
 
 -- `node`: network address, IEEE address, extended PAN id, PAN id, update id, capability information, stack profile, parent information,
 -- end device timeout, end device timeout default, leave request allowed; then sequence number, pending timeout request, timer in ms
 abbrev pub nib_of : InputLine → Nib
 nib_of l =
     record {
-      network_address = short 1 l;
-      ieee_address = ieee 2 l;
+      network_address = short_at 1 l;
+      ieee_address = ieee_at 2 l;
       extended_panid = extended_pan_id_at 3 l;
       panid = pan_id_at 4 l;
       update_id = bits8 5 l;
-      capability_information = capabilities 6 l;
+      capability_information = capabilities_at 6 l;
       stack_profile = bits8 7 l;
       parent_information = bits8 8 l;
       end_device_timeout = bits8 9 l;
       end_device_timeout_default = bits8 10 l;
-      leave_request_allowed = flag 11 l;
+      leave_request_allowed = flag_at 11 l;
     }
 
 abbrev pub node_of : InputLine → NodeFields
@@ -103,23 +103,23 @@ device_type_of n = get_or (Coordinator ∷ Router ∷ EndDevice ∷ []) n (Inval
 abbrev pub entry_with : DeviceType → InputLine → NwkNeighbor
 entry_with type l =
     record {
-      extended_address = ieee 1 l;
-      network_address = short 2 l;
+      extended_address = ieee_at 1 l;
+      network_address = short_at 2 l;
       device_type = type;
-      rx_on_when_idle = flag 4 l;
+      rx_on_when_idle = flag_at 4 l;
       end_device_configuration = bits16 5 l;
       relationship = bits8 6 l;
       lqi = bits8 7 l;
       outgoing_cost = bits8 8 l;
       age = bits8 9 l;
-      keepalive_received = flag 10 l;
+      keepalive_received = flag_at 10 l;
       extended_pan_id = extended_pan_id_at 11 l;
       logical_channel = bits8 12 l;
       depth = bits8 13 l;
-      permit_joining = flag 14 l;
+      permit_joining = flag_at 14 l;
       potential_parent = bits8 15 l;
-      router_capacity = flag 16 l;
-      end_device_capacity = flag 17 l;
+      router_capacity = flag_at 16 l;
+      end_device_capacity = flag_at 17 l;
       update_id = bits8 18 l;
       pan_id = pan_id_at 19 l;
     }
@@ -129,7 +129,7 @@ entry_of l = entry_with (device_type_of (bits8 3 l)) l
 
 -- `f`: short address, count
 abbrev pub failure_of : InputLine → TransmitFailure
-failure_of l = record { address = short 1 l; count = bits8 2 l }
+failure_of l = record { address = short_at 1 l; count = bits8 2 l }
 
 -- of `discovery` and `join`: first channel, channel past the last, duration
 abbrev pub range_from : ℕ → InputLine → ScanRange
@@ -144,9 +144,9 @@ abbrev pub join_request_of : InputLine → NlmeJoinRequest
 join_request_of l =
     record {
       extended_pan_id = extended_pan_id_at 2 l;
-      rejoin_network = rejoin_network_of (field 1 l);
-      capability_information = capabilities 3 l;
-      security_enabled = flag 4 l;
+      rejoin_network = rejoin_network_of (number_at 1 l);
+      capability_information = capabilities_at 3 l;
+      security_enabled = flag_at 4 l;
       scan = range_from 5 l;
     }
 
@@ -156,7 +156,7 @@ abbrev pub packed : ℕ → ℕ → ℕ → ℕ → ℕ → ℕ
 packed profile version router depth device = profile + version * 16 + router * 1024 + depth * 2048 + device * 32768
 
 abbrev pub stack_profile_of : InputLine → StackProfile
-stack_profile_of l = record { 0 = packed (bits4 12 l) (bits4 13 l) (field 7 l % 2) (bits4 9 l) (field 8 l % 2) }
+stack_profile_of l = record { 0 = packed (bits4 12 l) (bits4 13 l) (number_at 7 l % 2) (bits4 9 l) (number_at 8 l % 2) }
 
 -- `b`: channel, PAN id, address mode, address, extended PAN id, permit, router capacity, end device capacity, depth, update id, lqi, stack profile,
 -- protocol version, beacon order, superframe order; the address as its mode has it
@@ -166,7 +166,7 @@ beacon_of a l =
       channel = bits8 1 l;
       coord_pan_id = pan_id_at 2 l;
       coord_address = a;
-      superframe_spec = record { beacon_order = bits8 14 l; superframe_order = bits8 15 l; association_permit = flag 6 l };
+      superframe_spec = record { beacon_order = bits8 14 l; superframe_order = bits8 15 l; association_permit = flag_at 6 l };
       link_quality = bits8 11 l;
       zigbee_beacon = record {
         stack_profile = stack_profile_of l;
@@ -177,34 +177,34 @@ beacon_of a l =
 
 -- `associate`: status, short address, IEEE address
 abbrev pub association_of : InputLine → AssociationResponse
-association_of l = record { status = bits8 1 l; association_address = short 2 l; device_address = ieee 3 l }
+association_of l = record { status = bits8 1 l; association_address = short_at 2 l; device_address = ieee_at 3 l }
 
 -- of a received frame: source, source IEEE address or `-`
-abbrev pub ieee_of : InputLine → Option IeeeAddress
-ieee_of l = cond l.dash None (Some (ieee 2 l))
+abbrev pub source_ieee : InputLine → Option IeeeAddress
+source_ieee l = cond l.dash None (Some (ieee_at 2 l))
 
 abbrev pub source_of : InputLine → Source
-source_of l = record { address = short 1 l; ieee = ieee_of l }
+source_of l = record { address = short_at 1 l; ieee = source_ieee l }
 
 -- what follows the source in `rejoinresponse`: network address, status; in `timeoutresponse`: status, parent information;
 -- in `leave`, after its destination: request, rejoin, remove children
 abbrev pub rejoin_response_of : InputLine → RejoinResponse
-rejoin_response_of l = record { network_address = short 3 l; status = bits8 4 l }
+rejoin_response_of l = record { network_address = short_at 3 l; status = bits8 4 l }
 
 abbrev pub timeout_response_of : InputLine → EndDeviceTimeoutResponse
 timeout_response_of l = record { status = bits8 3 l; parent_information = bits8 4 l }
 
 abbrev pub leave_options_of : InputLine → LeaveOptions
-leave_options_of l = record { request = flag 4 l; rejoin = flag 5 l; remove_children = flag 6 l }
+leave_options_of l = record { request = flag_at 4 l; rejoin = flag_at 5 l; remove_children = flag_at 6 l }
 
-abbrev pub received : ReceivedFrame → Call
-received f = call.Reception (Ok (Some f))
+abbrev pub frame_call : ReceivedFrame → TraceCall
+frame_call f = call.Reception (Ok (Some f))
 
 -- what a line says, by its kind
-abbrev pub call_by : InputKind → InputLine → Call
+abbrev pub call_by : InputKind → InputLine → TraceCall
 call_by kind.Entry l = call.Entry (entry_of l)  -- e
-call_by kind.ShortBeacon l = call.Beacon (beacon_of (Short (pan_id_at 2 l) (short 4 l)) l)  -- b, address mode 2
-call_by kind.ExtendedBeacon l = call.Beacon (beacon_of (Extended (pan_id_at 2 l) (ieee 4 l)) l)  -- b, address mode 3
+call_by kind.ShortBeacon l = call.Beacon (beacon_of (Short (pan_id_at 2 l) (short_at 4 l)) l)  -- b, address mode 2
+call_by kind.ExtendedBeacon l = call.Beacon (beacon_of (Extended (pan_id_at 2 l) (ieee_at 4 l)) l)  -- b, address mode 3
 call_by kind.NoData l = call.Reception (Ok None)
 call_by kind.Sent l = call.Transmission true
 call_by kind.Tick l = call.Tick (bits32 1 l)
@@ -215,27 +215,27 @@ call_by kind.ScanFailed l = call.ScanFailed
 call_by kind.PollFailed l = call.Reception (Err mac_error)
 call_by kind.Associated l = call.Association (Ok (association_of l))
 call_by kind.AssociateFailed l = call.Association (Err mac_error)
-call_by kind.Undecodable l = received Undecodable
-call_by kind.Data l = received (Data (source_of l))
-call_by kind.RejoinResponse l = received (RejoinResponseCommand (source_of l) (rejoin_response_of l))
-call_by kind.TimeoutResponse l = received (TimeoutResponseCommand (source_of l) (timeout_response_of l))
-call_by kind.Leave l = received (LeaveCommand (source_of l) (short 3 l) (leave_options_of l))
-call_by kind.Command l = received (OtherCommand (source_of l))
-call_by kind.OtherFrame l = received OtherFrame
+call_by kind.Undecodable l = frame_call Undecodable
+call_by kind.Data l = frame_call (Data (source_of l))
+call_by kind.RejoinResponse l = frame_call (RejoinResponseCommand (source_of l) (rejoin_response_of l))
+call_by kind.TimeoutResponse l = frame_call (TimeoutResponseCommand (source_of l) (timeout_response_of l))
+call_by kind.Leave l = frame_call (LeaveCommand (source_of l) (short_at 3 l) (leave_options_of l))
+call_by kind.Command l = frame_call (OtherCommand (source_of l))
+call_by kind.OtherFrame l = frame_call OtherFrame
 call_by kind.Discovery l = call.Discovery (range_from 1 l)
 call_by kind.Join l = call.Join (join_request_of l)
-call_by kind.Send l = call.Send (short 1 l) (flag 2 l)
+call_by kind.Send l = call.Send (short_at 1 l) (flag_at 2 l)
 call_by kind.Poll l = call.Poll
 call_by kind.Receive l = call.Receive
 call_by kind.Negotiate l = call.Negotiate
 call_by kind.Keepalive l = call.Keepalive
 call_by kind.TakeLeave l = call.TakeLeave
 call_by kind.TakeStatus l = call.TakeStatus
-call_by kind.Candidates l = call.Choose (extended_pan_id_at 1 l) (flag 2 l) (flag 3 l)
+call_by kind.Candidates l = call.Choose (extended_pan_id_at 1 l) (flag_at 2 l) (flag_at 3 l)
 call_by kind.State l = call.PrintState
 call_by kind.Pair l = call.Failure (failure_of l)  -- f
 call_by kind.Page l = call.Page (bits16 1 l)
 call_by kind.Refresh l = call.Refresh
 
-abbrev pub call_of : InputLine → Call
+abbrev pub call_of : InputLine → TraceCall
 call_of l = call_by l.kind l

@@ -3,7 +3,7 @@
 
 ghost use Rattle.std.specs.Prelude.{◌≡◌, ◌<◌};
 ghost use Rattle.discovery.specs.declared.mlme.Address.TheVariants.{Short, Extended};
-ghost use Rattle.trace_input.specs.TraceInput.{nib_of, node_of, device_type_of, entry_of, entry_with, failure_of, range_from, rejoin_network_of, join_request_of, stack_profile_of, beacon_of, bits8, bits16, bits32, flag, extended_pan_id_at, pan_id_at, short, ieee, capabilities, association_of, ieee_of, source_of, rejoin_response_of, timeout_response_of, leave_options_of, received, call_of};
+ghost use Rattle.trace_input.specs.TraceInput.{nib_of, node_of, device_type_of, entry_of, entry_with, failure_of, range_from, rejoin_network_of, join_request_of, stack_profile_of, beacon_of, bits8, bits16, bits32, flag_at, extended_pan_id_at, pan_id_at, short_at, ieee_at, capabilities_at, association_of, source_ieee, source_of, rejoin_response_of, timeout_response_of, leave_options_of, frame_call, call_of};
 
 use discovery::mlme::{
     Address, MacError, PanDescriptor, StackProfile, SuperframeSpecification, ZigbeeBeacon,
@@ -35,7 +35,7 @@ pub struct NodeFields {
 
 // What a line of the input says.
 #[derive(Clone, Copy)]
-pub enum Call {
+pub enum TraceCall {
     // `node`: a state begins
     Node(NodeFields),
     // `e`: a neighbour entry more
@@ -46,8 +46,11 @@ pub enum Call {
     Discovery(ScanRange),
     // `join`
     Join(NlmeJoinRequest),
+    // `send`
     Send {
+        // the short address that the data is for
         destination: ShortAddress,
+        // whether it is sent secured
         secure: bool,
     },
     // `poll`
@@ -76,9 +79,13 @@ pub enum Call {
     TakeLeave,
     // `takestatus`
     TakeStatus,
+    // `candidates`
     Choose {
+        // the network
         extended_pan_id: ExtendedPanId,
+        // whether room for a router is wanted, and not for an end device
         join_as_router: bool,
+        // whether a candidate has to permit joining
         require_permit_joining: bool,
     },
     // `state`
@@ -113,16 +120,16 @@ fn bits32(line: InputLine, k: usize) -> u32
     (line.numbers[k] % 4294967296) as u32
 }
 
-fn flag(line: InputLine, k: usize) -> bool
+fn flag_at(line: InputLine, k: usize) -> bool
     requires { k < 20 }
-    ensures { result ≡ flag k line }
+    ensures { result ≡ flag_at k line }
 {
     line.numbers[k] == 1
 }
 
-fn short(line: InputLine, k: usize) -> ShortAddress
+fn short_at(line: InputLine, k: usize) -> ShortAddress
     requires { k < 20 }
-    ensures { result ≡ short k line }
+    ensures { result ≡ short_at k line }
 {
     ShortAddress(bits16(line, k))
 }
@@ -134,9 +141,9 @@ fn pan_id_at(line: InputLine, k: usize) -> PanId
     PanId(bits16(line, k))
 }
 
-fn ieee(line: InputLine, k: usize) -> IeeeAddress
+fn ieee_at(line: InputLine, k: usize) -> IeeeAddress
     requires { k < 20 }
-    ensures { result ≡ ieee k line }
+    ensures { result ≡ ieee_at k line }
 {
     IeeeAddress(line.numbers[k])
 }
@@ -148,9 +155,9 @@ fn extended_pan_id_at(line: InputLine, k: usize) -> ExtendedPanId
     ExtendedPanId(line.numbers[k])
 }
 
-fn capabilities(line: InputLine, k: usize) -> CapabilityInformation
+fn capabilities_at(line: InputLine, k: usize) -> CapabilityInformation
     requires { k < 20 }
-    ensures { result ≡ capabilities k line }
+    ensures { result ≡ capabilities_at k line }
 {
     CapabilityInformation(bits8(line, k))
 }
@@ -174,23 +181,23 @@ fn entry_with(line: InputLine, device_type: DeviceType) -> NwkNeighbor
     ensures { result ≡ entry_with device_type line }
 {
     NwkNeighbor {
-        extended_address: ieee(line, 1),
-        network_address: short(line, 2),
+        extended_address: ieee_at(line, 1),
+        network_address: short_at(line, 2),
         device_type,
-        rx_on_when_idle: flag(line, 4),
+        rx_on_when_idle: flag_at(line, 4),
         end_device_configuration: bits16(line, 5),
         relationship: bits8(line, 6),
         lqi: bits8(line, 7),
         outgoing_cost: bits8(line, 8),
         age: bits8(line, 9),
-        keepalive_received: flag(line, 10),
+        keepalive_received: flag_at(line, 10),
         extended_pan_id: extended_pan_id_at(line, 11),
         logical_channel: bits8(line, 12),
         depth: bits8(line, 13),
-        permit_joining: flag(line, 14),
+        permit_joining: flag_at(line, 14),
         potential_parent: bits8(line, 15),
-        router_capacity: flag(line, 16),
-        end_device_capacity: flag(line, 17),
+        router_capacity: flag_at(line, 16),
+        end_device_capacity: flag_at(line, 17),
         update_id: bits8(line, 18),
         pan_id: pan_id_at(line, 19),
     }
@@ -206,7 +213,7 @@ fn failure_of(line: InputLine) -> TransmitFailure
     ensures { result ≡ failure_of line }
 {
     TransmitFailure {
-        address: short(line, 1),
+        address: short_at(line, 1),
         count: bits8(line, 2),
     }
 }
@@ -215,17 +222,17 @@ fn nib_of(line: InputLine) -> Nib
     ensures { result ≡ nib_of line }
 {
     Nib {
-        network_address: short(line, 1),
-        ieee_address: ieee(line, 2),
+        network_address: short_at(line, 1),
+        ieee_address: ieee_at(line, 2),
         extended_panid: extended_pan_id_at(line, 3),
         panid: pan_id_at(line, 4),
         update_id: bits8(line, 5),
-        capability_information: capabilities(line, 6),
+        capability_information: capabilities_at(line, 6),
         stack_profile: bits8(line, 7),
         parent_information: bits8(line, 8),
         end_device_timeout: bits8(line, 9),
         end_device_timeout_default: bits8(line, 10),
-        leave_request_allowed: flag(line, 11),
+        leave_request_allowed: flag_at(line, 11),
     }
 }
 
@@ -269,8 +276,8 @@ fn join_request_of(line: InputLine) -> NlmeJoinRequest
     NlmeJoinRequest {
         extended_pan_id: extended_pan_id_at(line, 2),
         rejoin_network: rejoin_network_of(line.numbers[1]),
-        capability_information: capabilities(line, 3),
-        security_enabled: flag(line, 4),
+        capability_information: capabilities_at(line, 3),
+        security_enabled: flag_at(line, 4),
         scan: range_of(line, 5),
     }
 }
@@ -295,7 +302,7 @@ fn beacon_of(line: InputLine, coord_address: Address) -> PanDescriptor
         superframe_spec: SuperframeSpecification {
             beacon_order: bits8(line, 14),
             superframe_order: bits8(line, 15),
-            association_permit: flag(line, 6),
+            association_permit: flag_at(line, 6),
         },
         link_quality: bits8(line, 11),
         zigbee_beacon: ZigbeeBeacon {
@@ -308,15 +315,15 @@ fn beacon_of(line: InputLine, coord_address: Address) -> PanDescriptor
 
 // One line, as `extended_sender` is over another variant.
 fn short_sender(line: InputLine) -> Address
-    ensures { result ≡ Short (pan_id_at 2 line) (short 4 line) }
+    ensures { result ≡ Short (pan_id_at 2 line) (short_at 4 line) }
 {
-    Address::Short(pan_id_at(line, 2), short(line, 4))
+    Address::Short(pan_id_at(line, 2), short_at(line, 4))
 }
 
 fn extended_sender(line: InputLine) -> Address
-    ensures { result ≡ Extended (pan_id_at 2 line) (ieee 4 line) }
+    ensures { result ≡ Extended (pan_id_at 2 line) (ieee_at 4 line) }
 {
-    Address::Extended(pan_id_at(line, 2), ieee(line, 4))
+    Address::Extended(pan_id_at(line, 2), ieee_at(line, 4))
 }
 
 fn association_of(line: InputLine) -> AssociationResponse
@@ -324,26 +331,26 @@ fn association_of(line: InputLine) -> AssociationResponse
 {
     AssociationResponse {
         status: bits8(line, 1),
-        association_address: short(line, 2),
-        device_address: ieee(line, 3),
+        association_address: short_at(line, 2),
+        device_address: ieee_at(line, 3),
     }
 }
 
-fn ieee_of(line: InputLine) -> Option<IeeeAddress>
-    ensures { result ≡ ieee_of line }
+fn source_ieee(line: InputLine) -> Option<IeeeAddress>
+    ensures { result ≡ source_ieee line }
 {
     if line.dash {
         return None;
     }
-    Some(ieee(line, 2))
+    Some(ieee_at(line, 2))
 }
 
 fn source_of(line: InputLine) -> Source
     ensures { result ≡ source_of line }
 {
     Source {
-        address: short(line, 1),
-        ieee: ieee_of(line),
+        address: short_at(line, 1),
+        ieee: source_ieee(line),
     }
 }
 
@@ -351,7 +358,7 @@ fn rejoin_response_of(line: InputLine) -> RejoinResponse
     ensures { result ≡ rejoin_response_of line }
 {
     RejoinResponse {
-        network_address: short(line, 3),
+        network_address: short_at(line, 3),
         status: bits8(line, 4),
     }
 }
@@ -369,73 +376,73 @@ fn leave_options_of(line: InputLine) -> LeaveOptions
     ensures { result ≡ leave_options_of line }
 {
     LeaveOptions {
-        request: flag(line, 4),
-        rejoin: flag(line, 5),
-        remove_children: flag(line, 6),
+        request: flag_at(line, 4),
+        rejoin: flag_at(line, 5),
+        remove_children: flag_at(line, 6),
     }
 }
 
-fn received(frame: ReceivedFrame) -> Call
-    ensures { result ≡ received frame }
+fn frame_call(frame: ReceivedFrame) -> TraceCall
+    ensures { result ≡ frame_call frame }
 {
-    Call::Reception(Ok(Some(frame)))
+    TraceCall::Reception(Ok(Some(frame)))
 }
 
 // What a line of the input says.
-pub fn call_of(line: InputLine) -> Call
+pub fn call_of(line: InputLine) -> TraceCall
     ensures { result ≡ call_of line }
 {
     match line.kind {
-        InputKind::Entry => Call::Entry(entry_of(line)),
-        InputKind::ShortBeacon => Call::Beacon(beacon_of(line, short_sender(line))),
-        InputKind::ExtendedBeacon => Call::Beacon(beacon_of(line, extended_sender(line))),
-        InputKind::NoData => Call::Reception(Ok(None)),
-        InputKind::Sent => Call::Transmission(true),
-        InputKind::Tick => Call::Tick(bits32(line, 1)),
-        InputKind::Node => Call::Node(node_of(line)),
-        InputKind::Scan => Call::Scan(bits32(line, 1)),
-        InputKind::SendFailed => Call::Transmission(false),
-        InputKind::ScanFailed => Call::ScanFailed,
-        InputKind::PollFailed => Call::Reception(Err(MacError)),
-        InputKind::Associated => Call::Association(Ok(association_of(line))),
-        InputKind::AssociateFailed => Call::Association(Err(MacError)),
-        InputKind::Undecodable => received(ReceivedFrame::Undecodable),
-        InputKind::Data => received(ReceivedFrame::Data(source_of(line))),
-        InputKind::RejoinResponse => received(ReceivedFrame::RejoinResponseCommand(
+        InputKind::Entry => TraceCall::Entry(entry_of(line)),
+        InputKind::ShortBeacon => TraceCall::Beacon(beacon_of(line, short_sender(line))),
+        InputKind::ExtendedBeacon => TraceCall::Beacon(beacon_of(line, extended_sender(line))),
+        InputKind::NoData => TraceCall::Reception(Ok(None)),
+        InputKind::Sent => TraceCall::Transmission(true),
+        InputKind::Tick => TraceCall::Tick(bits32(line, 1)),
+        InputKind::Node => TraceCall::Node(node_of(line)),
+        InputKind::Scan => TraceCall::Scan(bits32(line, 1)),
+        InputKind::SendFailed => TraceCall::Transmission(false),
+        InputKind::ScanFailed => TraceCall::ScanFailed,
+        InputKind::PollFailed => TraceCall::Reception(Err(MacError)),
+        InputKind::Associated => TraceCall::Association(Ok(association_of(line))),
+        InputKind::AssociateFailed => TraceCall::Association(Err(MacError)),
+        InputKind::Undecodable => frame_call(ReceivedFrame::Undecodable),
+        InputKind::Data => frame_call(ReceivedFrame::Data(source_of(line))),
+        InputKind::RejoinResponse => frame_call(ReceivedFrame::RejoinResponseCommand(
             source_of(line),
             rejoin_response_of(line),
         )),
-        InputKind::TimeoutResponse => received(ReceivedFrame::TimeoutResponseCommand(
+        InputKind::TimeoutResponse => frame_call(ReceivedFrame::TimeoutResponseCommand(
             source_of(line),
             timeout_response_of(line),
         )),
-        InputKind::Leave => received(ReceivedFrame::LeaveCommand(
+        InputKind::Leave => frame_call(ReceivedFrame::LeaveCommand(
             source_of(line),
-            short(line, 3),
+            short_at(line, 3),
             leave_options_of(line),
         )),
-        InputKind::Command => received(ReceivedFrame::OtherCommand(source_of(line))),
-        InputKind::OtherFrame => received(ReceivedFrame::OtherFrame),
-        InputKind::Discovery => Call::Discovery(range_of(line, 1)),
-        InputKind::Join => Call::Join(join_request_of(line)),
-        InputKind::Send => Call::Send {
-            destination: short(line, 1),
-            secure: flag(line, 2),
+        InputKind::Command => frame_call(ReceivedFrame::OtherCommand(source_of(line))),
+        InputKind::OtherFrame => frame_call(ReceivedFrame::OtherFrame),
+        InputKind::Discovery => TraceCall::Discovery(range_of(line, 1)),
+        InputKind::Join => TraceCall::Join(join_request_of(line)),
+        InputKind::Send => TraceCall::Send {
+            destination: short_at(line, 1),
+            secure: flag_at(line, 2),
         },
-        InputKind::Poll => Call::Poll,
-        InputKind::Receive => Call::Receive,
-        InputKind::Negotiate => Call::Negotiate,
-        InputKind::Keepalive => Call::Keepalive,
-        InputKind::TakeLeave => Call::TakeLeave,
-        InputKind::TakeStatus => Call::TakeStatus,
-        InputKind::Candidates => Call::Choose {
+        InputKind::Poll => TraceCall::Poll,
+        InputKind::Receive => TraceCall::Receive,
+        InputKind::Negotiate => TraceCall::Negotiate,
+        InputKind::Keepalive => TraceCall::Keepalive,
+        InputKind::TakeLeave => TraceCall::TakeLeave,
+        InputKind::TakeStatus => TraceCall::TakeStatus,
+        InputKind::Candidates => TraceCall::Choose {
             extended_pan_id: extended_pan_id_at(line, 1),
-            join_as_router: flag(line, 2),
-            require_permit_joining: flag(line, 3),
+            join_as_router: flag_at(line, 2),
+            require_permit_joining: flag_at(line, 3),
         },
-        InputKind::State => Call::PrintState,
-        InputKind::Pair => Call::Failure(failure_of(line)),
-        InputKind::Page => Call::Page(bits16(line, 1)),
-        InputKind::Refresh => Call::Refresh,
+        InputKind::State => TraceCall::PrintState,
+        InputKind::Pair => TraceCall::Failure(failure_of(line)),
+        InputKind::Page => TraceCall::Page(bits16(line, 1)),
+        InputKind::Refresh => TraceCall::Refresh,
     }
 }

@@ -21,7 +21,7 @@ use Rattle.std.proofs.lemmas.Iterator.{YieldsList}
 use Rattle.std.proofs.lemmas.Iterator.Consumers.{YieldsList-turn}
 use Rattle.trace_lines.specs.declared.InputKind.{InputKind}
 use Rattle.trace_lines.specs.declared.InputLine.{InputLine}
-use Rattle.trace_lines.specs.TraceLines.{letters_of, number_of, is_dash, all_fit, fits, zeros, or_zero, line_as, read_by}
+use Rattle.trace_lines.specs.TraceLines.{letters_of, number_of, is_dash, all_fit, fits_kind, zeros, or_zero, line_as, read_by}
 use Rattle.trace_lines.specs.Private.{read_as, read_kind}
 use Rattle.trace_lines.proofs.Zips.{zip-long, zip-few, zip-turn}
 
@@ -118,7 +118,7 @@ module _ (k : InputKind) (fs : List (List ℕ)) where
 module _ (fs : List (List ℕ)) (d : InputKind) where
   hit : (k : InputKind) (ks : List InputKind) (r : InputLine) → Some r ≡ read_kind k fs → Some r ≡ read_by (k ∷ ks) fs
   unfolding read_by
-  hit k ks r = go (fits fs k)
+  hit k ks r = go (fits_kind fs k)
     where
       go : (b : Bool) → Some r ≡ cond b (Some (line_as k fs)) None → Some r ≡ cond b (Some (line_as k fs)) (read_by ks fs)
       go true e = e
@@ -126,7 +126,7 @@ module _ (fs : List (List ℕ)) (d : InputKind) where
 
   miss : (k : InputKind) (ks : List InputKind) → None ≡ read_kind k fs → read_by ks fs ≡ read_by (k ∷ ks) fs
   unfolding read_by
-  miss k ks = go (fits fs k)
+  miss k ks = go (fits_kind fs k)
     where
       go : (b : Bool) → None ≡ cond b (Some (line_as k fs)) None → read_by ks fs ≡ cond b (Some (line_as k fs)) (read_by ks fs)
       go true e = absurd (false≢true (ap is_some e))

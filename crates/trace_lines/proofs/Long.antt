@@ -15,12 +15,12 @@ use Rattle.std.specs.Prelude.{Some, None, is_some}
 use Rattle.std.proofs.lemmas.Bool.{and_parts}
 use Rattle.text.proofs.Parts.{parts-some}
 use Rattle.text.proofs.Sizes.{same_size, hex-size, decimal-size, total, total-parts}
-use Rattle.trace_lines.specs.TraceLines.{four_digits, sixteen_digits, or_dash, digit_two, digit_three, greatest, number_of, kinds, word_of, letters_of, all_fit, fits, read_by, line_of}
+use Rattle.trace_lines.specs.TraceLines.{four_digits, sixteen_digits, or_dash, digit_two, digit_three, greatest, number_of, kinds, word_of, letters_of, all_fit, fits_kind, read_by, line_of}
 use Rattle.trace_lines.specs.declared.InputKind.{InputKind}
 
 -- the program has this line stand for one that is missing
 pub empty-line : line_of [] ≡ None
-unfolding line_of read_by fits
+unfolding line_of read_by fits_kind
 empty-line = refl
 
 -- a decimal number has at most ten digits
@@ -68,8 +68,8 @@ abbrev small : InputKind → Bool
 small kind = leb (length (word_of kind)) 20 && leb (length (letters_of kind)) 19
 
 -- a line that fits such a kind
-line-size : (kind : InputKind) (fs : List (List ℕ)) → small kind ≡ true → 1 ≤ length fs → fits fs kind ≡ true → total fs ≤ 344
-unfolding fits all_fit
+line-size : (kind : InputKind) (fs : List (List ℕ)) → small kind ≡ true → 1 ≤ length fs → fits_kind fs kind ≡ true → total fs ≤ 344
+unfolding fits_kind all_fit
 line-size kind [] s o h = zero-le
 line-size kind (f ∷ fs) s o h =
     let k = and_parts (leb (length (word_of kind)) 20) (leb (length (letters_of kind)) 19) s in
@@ -80,9 +80,9 @@ line-size kind (f ∷ fs) s o h =
 
 -- a line of 512 bytes or more
 module _ (line : List ℕ) (h : 512 ≤ length line) where
-  other : (kind : InputKind) → small kind ≡ true → fits (fields line) kind ≡ false
+  other : (kind : InputKind) → small kind ≡ true → fits_kind (fields line) kind ≡ false
   other kind s =
-      split (fits (fields line) kind)
+      split (fits_kind (fields line) kind)
       (λ t. let x : ⊥ = omega (arith, h, total-parts 9 line, line-size kind (fields line) s (parts-some 9 line) t) in absurd x)
       (λ f. f)
 

@@ -10,7 +10,6 @@ use lib.ListN.{length, take, get_or, length-append, length-map, length-take}
 use lib.Seq.{length-take-le}
 use Rattle.lists.specs.Lists.{All}
 use Rattle.std.proofs.lemmas.List.{take_more}
-use Rattle.lists.proofs.Lists.{over-take}
 use Rattle.text.proofs.Numbers.{decimal-long, hex-long}
 use Rattle.text.proofs.Written.{in_turn, from_start, same_buffer}
 use Rattle.trace_lines.specs.declared.Field.{Field}
@@ -90,7 +89,7 @@ word-short w = elim w as (λ v. Short (word_text v)) [
 ]
 
 pub field-short : (f : Field) → Short (field_text f)
-field-short (Field.Word w) = word-short w
+field-short (Field.Named w) = word-short w
 field-short (Field.Short n) = omega (arith, hex-long 4 n)
 field-short (Field.Long n) = omega (arith, hex-long 16 n)
 field-short (Field.OrDash None) = omega arith

@@ -141,8 +141,8 @@ unfoldable pub all_fit : List ℕ → List (List ℕ) → Bool
 all_fit letters fs = eqb (length fs) (length letters) && every is_some (zip_with number_of letters fs)
 
 -- the fields of a line fit a kind
-unfoldable pub fits : List (List ℕ) → InputKind → Bool
-fits fs k = same_text (get_or fs 0 []) (word_of k) && all_fit (letters_of k) (drop 1 fs)
+unfoldable pub fits_kind : List (List ℕ) → InputKind → Bool
+fits_kind fs k = same_text (get_or fs 0 []) (word_of k) && all_fit (letters_of k) (drop 1 fs)
 
 abbrev pub zeros : List ℕ
 zeros = replicate 20 0
@@ -163,7 +163,7 @@ line_as k fs =
 -- the line by the first kind that fits; none where no kind does: the line is none of a trace
 unfoldable pub read_by : List InputKind → List (List ℕ) → Option InputLine
 read_by [] fs = None
-read_by (k ∷ ks) fs = cond (fits fs k) (Some (line_as k fs)) (read_by ks fs)
+read_by (k ∷ ks) fs = cond (fits_kind fs k) (Some (line_as k fs)) (read_by ks fs)
 
 unfoldable pub line_of : List ℕ → Option InputLine
 line_of line = read_by kinds (fields line)
@@ -229,7 +229,7 @@ flag_text b = cond b (bytes "1") (bytes "0")
 
 -- a field's text
 abbrev pub field_text : Field → List ℕ
-field_text (field.Word w) = word_text w
+field_text (field.Named w) = word_text w
 field_text (field.Short n) = hex_text 4 n
 field_text (field.Long n) = hex_text 16 n
 field_text (field.OrDash n) = or_dash_text n

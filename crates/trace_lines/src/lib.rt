@@ -123,6 +123,9 @@ const KINDS: [InputKind; 34] = [
 // How many fields a line has at most, its word included.
 const MAX_FIELDS: usize = 20;
 
+// The greatest length of a lent buffer that a `page` line tells of: the format's bound, over the 816 bytes that a page fills, so that longer buffers come too.
+pub const MAX_PAGE_BYTES: usize = 1024;
+
 // A line that is read: its kind and the numbers in its fields. `dash` says that the field for an IEEE address is `-`. It is a flag, since one field of a line
 // at most may be a dash: as options all twenty numbers would be.
 #[derive(Clone, Copy)]
@@ -216,7 +219,7 @@ fn greatest(letter: u8) -> u32
         b'k' => 3,
         b'n' => 15,
         b'b' => 255,
-        b'p' => 1024,
+        b'p' => MAX_PAGE_BYTES as u32,
         b's' => 65535,
         _ => 4294967295,
     }
@@ -278,7 +281,7 @@ fn read_as(kind: InputKind, line: &[u8]) -> Option<InputLine>
 }
 
 // The line by a kind, or none where it doesn't fit.
-#[tactic(auto, unfolding(crate::specs::TraceLines::fits))]
+#[tactic(auto, unfolding(crate::specs::TraceLines::fits_kind))]
 fn read_kind(kind: InputKind, line: &[u8]) -> Option<InputLine>
     ensures { result ≡ read_kind kind (fields line.now) }
 {
@@ -351,7 +354,7 @@ pub enum Word {
 #[derive(Clone, Copy)]
 pub enum Field {
     // a word
-    Word(Word),
+    Named(Word),
     // 4 hexadecimal digits
     Short(u16),
     // 16 hexadecimal digits
@@ -447,7 +450,7 @@ fn write_field(out: &mut Writer, field: Field)
     ensures { out.new ≡ with_text out.old (field_text field) }
 {
     match field {
-        Field::Word(word) => out.write(word.text()),
+        Field::Named(word) => out.write(word.text()),
         Field::Short(n) => out.write_hex(u64::from(n), 4),
         Field::Long(n) => out.write_hex(n, 16),
         Field::OrDash(n) => write_or_dash(out, n),

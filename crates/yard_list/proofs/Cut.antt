@@ -18,7 +18,7 @@ use Rattle.text.proofs.Parts.{parts-some, parts_first, parts-only}
 use Rattle.text.proofs.Sizes.{same_size, hex-size, decimal-size, total, total-parts}
 use Rattle.yard_list.specs.declared.Form.{Form}
 use Rattle.yard_list.specs.declared.Form.TheVariants.{RequestWord, EntryWord, Hex, Decimal}
-use Rattle.yard_list.specs.YardList.{fits, request_forms, entry_forms, all_fit, is_good, good_from, list_text, bad_text, ended_lines, unended, yard_text}
+use Rattle.yard_list.specs.YardList.{has_form, request_forms, entry_forms, have_forms, is_good, good_from, list_text, bad_text, ended_lines, unended, yard_text}
 use Rattle.yard_list.proofs.Lines.{good_few}
 
 -- how long a field of a form is at most, for decimal numbers below 1,000
@@ -34,7 +34,7 @@ Narrow EntryWord = Unit {0}
 Narrow (Hex k) = Unit {0}
 Narrow (Decimal max) = max < 1000
 
-fit-size : (m : Form) (f : List ℕ) → Narrow m → fits m f ≡ true → length f ≤ most m
+fit-size : (m : Form) (f : List ℕ) → Narrow m → has_form m f ≡ true → length f ≤ most m
 fit-size RequestWord f n h = omega (arith, same_size f (bytes "request") h)
 fit-size EntryWord f n h = omega (arith, same_size f (bytes "n") h)
 fit-size (Hex k) f n h = omega (arith, hex-size k f h)
@@ -48,12 +48,12 @@ abbrev widths : List Form → ℕ
 widths [] = 0
 widths (m ∷ ms) = suc (most m) + widths ms
 
-line-size : (ms : List Form) (fs : List (List ℕ)) → All Narrow ms → all_fit ms fs ≡ true → total fs ≤ widths ms
+line-size : (ms : List Form) (fs : List (List ℕ)) → All Narrow ms → have_forms ms fs ≡ true → total fs ≤ widths ms
 line-size [] [] n h = zero-le
 line-size [] (f ∷ fs) n h = absurd (false≢true h)
 line-size (m ∷ ms) [] n h = zero-le
 line-size (m ∷ ms) (f ∷ fs) n h =
-    let t = and_parts (fits m f) (all_fit ms fs) h in
+    let t = and_parts (has_form m f) (have_forms ms fs) h in
     let a = fit-size m f n.0 t.0 in
     let b = line-size ms fs n.1 t.1 in
     omega arith
@@ -62,7 +62,7 @@ good-size : (k : ℕ) (l : List ℕ) → is_good k l ≡ true → length l ≤ 5
 unfolding is_good
 good-size k l h = go (eqb k 0) (leb k 16) h
   where
-    go : (b d : Bool) → cond b (all_fit request_forms (fields l)) (d && all_fit entry_forms (fields l)) ≡ true → length l ≤ 54
+    go : (b d : Bool) → cond b (have_forms request_forms (fields l)) (d && have_forms entry_forms (fields l)) ≡ true → length l ≤ 54
     go true d t =
         let s : total (fields l) ≤ 33 = line-size request_forms (fields l) (tt, (tt, (omega arith, (omega arith, (omega arith, tt))))) t in
         omega (arith, total-parts 9 l)

@@ -18,25 +18,25 @@ use Rattle.text.specs.Text.{parts, fields}
 use Rattle.text.proofs.Numbers.{hex-below, decimal-most}
 use Rattle.text.proofs.Parts.{parts-some}
 use Rattle.yard_list.specs.declared.Form.{Form}
-use Rattle.yard_list.specs.YardList.{fits, request_forms, entry_forms, all_fit, is_good, good_from, hex_at, byte_at, entry_of, entries_in}
+use Rattle.yard_list.specs.YardList.{has_form, request_forms, entry_forms, have_forms, is_good, good_from, hex_at, byte_at, entry_read, entries_in}
 
 -- other than as many fields as forms do not fit
-pub fit_long : (ms : List Form) (fs : List (List ℕ)) → (length fs ≡ length ms → ⊥) → all_fit ms fs ≡ false
+pub fit_long : (ms : List Form) (fs : List (List ℕ)) → (length fs ≡ length ms → ⊥) → have_forms ms fs ≡ false
 fit_long [] [] h = absurd (h refl)
 fit_long [] (f ∷ fs) h = refl
 fit_long (m ∷ ms) [] h = refl
-fit_long (m ∷ ms) (f ∷ fs) h = rw (fit_long ms fs (λ e. h (ap suc e))) (neither (fits m f))
+fit_long (m ∷ ms) (f ∷ fs) h = rw (fit_long ms fs (λ e. h (ap suc e))) (neither (has_form m f))
   where
     neither : (b : Bool) → (b && false) ≡ false
     neither true = refl
     neither false = refl
 
 -- where there are as many, each field beside its form says it
-pub fit_each : (ms : List Form) (fs : List (List ℕ)) → length fs ≡ length ms → list_all (λ p. fits p.1 p.0) (zip fs ms) ≡ all_fit ms fs
+pub fit_each : (ms : List Form) (fs : List (List ℕ)) → length fs ≡ length ms → list_all (λ p. has_form p.1 p.0) (zip fs ms) ≡ have_forms ms fs
 fit_each [] [] h = refl
 fit_each [] (f ∷ fs) h = let x : ⊥ = omega (arith, h) in absurd x
 fit_each (m ∷ ms) [] h = let x : ⊥ = omega (arith, h) in absurd x
-fit_each (m ∷ ms) (f ∷ fs) h = ap (λ (b : Bool). fits m f && b) (fit_each ms fs (omega (arith, h)))
+fit_each (m ∷ ms) (f ∷ fs) h = ap (λ (b : Bool). has_form m f && b) (fit_each ms fs (omega (arith, h)))
 
 -- how many lines are good, in std's words
 pub good-prefix : (k : ℕ) (ls : List (List ℕ)) → length (take (prefix_len (λ p. is_good p.0 p.1) (enumerate_from k ls)) (enumerate_from k ls)) ≡ good_from k ls
@@ -59,7 +59,7 @@ good-within : (k : ℕ) (l : List ℕ) → is_good k l ≡ true → k ≤ 16
 unfolding is_good
 good-within k l h = go (eqb k 0) refl (leb k 16) refl h
   where
-    go : (b : Bool) → eqb k 0 ≡ b → (d : Bool) → leb k 16 ≡ d → cond b (all_fit request_forms (fields l)) (d && all_fit entry_forms (fields l)) ≡ true → k ≤ 16
+    go : (b : Bool) → eqb k 0 ≡ b → (d : Bool) → leb k 16 ≡ d → cond b (have_forms request_forms (fields l)) (d && have_forms entry_forms (fields l)) ≡ true → k ≤ 16
     go true p d q t = omega (arith, eqb-true k 0 p)
     go false p true q t = leb-true k 16 q
     go false p false q t = absurd (false≢true t)
@@ -78,10 +78,10 @@ good_few k (l ∷ ls) h = go (is_good k l) refl (λ w. good_few (suc k) ls w)
     go false e r = omega arith
 
 -- the entries of lines put behind those of a table
-pub table-of : (es : List NwkNeighbor) (ls : List (List ℕ)) → length es + length ls ≤ 16 → fold (λ t l. pushed t (entry_of (fields l))) (table_of es) ls ≡ table_of (es ++ entries_in ls)
+pub table-of : (es : List NwkNeighbor) (ls : List (List ℕ)) → length es + length ls ≤ 16 → fold (λ t l. pushed t (entry_read (fields l))) (table_of es) ls ≡ table_of (es ++ entries_in ls)
 table-of es [] h = ap table_of (sym (append-nil es))
 table-of es (l ∷ ls) h =
-    let e = entry_of (fields l) in
-    ap (λ (t : NeighborTable). fold (λ t l. pushed t (entry_of (fields l))) t ls) (push-of es e (omega arith))
+    let e = entry_read (fields l) in
+    ap (λ (t : NeighborTable). fold (λ t l. pushed t (entry_read (fields l))) t ls) (push-of es e (omega arith))
     ∙ table-of (es ++ (e ∷ [])) ls (omega (arith, length-append es (e ∷ [])))
     ∙ ap table_of (append_assoc es (e ∷ []) (entries_in ls))

@@ -17,13 +17,13 @@ use Rattle.nib.proofs.Tables.{entries-of}
 use Rattle.candidates.specs.Candidates.{list_of, items_of}
 use Rattle.candidates.specs.declared.CandidateList.{CandidateList}
 use Rattle.candidates.proofs.Listed.{items-of}
-use Rattle.yard_list.specs.Private.{Named}
+use Rattle.yard_list.specs.Private.{InTable}
 use Rattle.nib.specs.declared.NwkNeighbor.{NwkNeighbor}
 use Rattle.candidates.proofs.Laws.{few, below}
 use Rattle.text.specs.Text.{parts, fields, decimal_text}
 use Rattle.std.proofs.lemmas.Bool.{and_parts}
 use Rattle.text.proofs.Numbers.{decimal-long, decimal-short}
-use Rattle.yard_list.specs.YardList.{good_from, hex_at, byte_at, flag_at, entry_of, entries_in, chosen, row_of, rows_from, header, list_text, bad_text, ended_lines, unended, yard_text}
+use Rattle.yard_list.specs.YardList.{good_from, hex_at, byte_at, flag_at, entry_read, entries_in, request_candidates, row_of, rows_from, header, list_text, bad_text, ended_lines, unended, yard_text}
 use Rattle.yard_list.proofs.Lines.{good_few, byte_most}
 
 module _ (es : List NwkNeighbor) where
@@ -47,32 +47,32 @@ row-size : (e : NwkNeighbor) (p i : ℕ) → length (row_of e p i) ≡ length (d
 row-size e p i = simp length-append (omega arith)
 
 -- the candidates of a request among the entries of at most 16 lines
-pub named : (n : ℕ) (ls fs : List (List ℕ)) → n ≤ 16 → Named (table_of (entries_in (take n ls))) (list_of (chosen fs (entries_of (table_of (entries_in (take n ls))))))
-unfolding chosen
-named n ls fs h =
+pub in_table : (n : ℕ) (ls fs : List (List ℕ)) → n ≤ 16 → InTable (table_of (entries_in (take n ls))) (list_of (request_candidates fs (entries_of (table_of (entries_in (take n ls))))))
+unfolding request_candidates
+in_table n ls fs h =
     let ns = take n ls in
     let es = entries_of (table_of (entries_in ns)) in
-    let l : length es ≤ 16 = omega (arith, ap length (entries-of (entries_in ns)), length-map ns (λ l. entry_of (fields l)), length-take n ls) in
+    let l : length es ≤ 16 = omega (arith, ap length (entries-of (entries_in ns)), length-map ns (λ l. entry_read (fields l)), length-take n ls) in
     record {
       few = omega (arith, few (byte_at fs 4) (flag_at fs 2) (flag_at fs 3) (hex_at 16 fs 1) es);
-      within = subst (All (λ i. i < length es)) (sym (items-of (list_of (chosen fs es)) (chosen fs es) refl)) (below (byte_at fs 4) (flag_at fs 2) (flag_at fs 3) (hex_at 16 fs 1) es);
+      within = subst (All (λ i. i < length es)) (sym (items-of (list_of (request_candidates fs es)) (request_candidates fs es) refl)) (below (byte_at fs 4) (flag_at fs 2) (flag_at fs 3) (hex_at 16 fs 1) es);
     }
 
 -- the text of good lines: the header, and the candidates of line 1 among the entries of the others
 pub list-is : (n : ℕ) (ls : List (List ℕ)) (l : List ℕ) (t : NeighborTable) (c : CandidateList) → 0 < n → n < length ls → l ≡ get_or ls 0 [] → t ≡ table_of (entries_in (take (n - 1) (drop 1 ls)))
-    → c ≡ list_of (chosen (fields l) (entries_of t)) → header ++ rows_from (entries_of t) 1 (items_of c) ≡ list_text (take n ls)
+    → c ≡ list_of (request_candidates (fields l) (entries_of t)) → header ++ rows_from (entries_of t) 1 (items_of c) ≡ list_text (take n ls)
 unfolding list_text
 list-is zero ls l t c h k o p q = absurd (not-suc-le-zero h)
 list-is (suc n) [] l t c h k o p q = absurd (not-suc-le-zero k)
 list-is (suc n) (x ∷ xs) l t c h k o p q =
     let m : suc n - 1 ≡ n = omega arith in
     let e : entries_of t ≡ entries_in (take n xs) = ap (λ (y : NeighborTable). entries_of y) p ∙ entries-of (entries_in (take (suc n - 1) xs)) ∙ ap (λ (y : ℕ). entries_in (take y xs)) m in
-    ap (λ (y : List ℕ). header ++ rows_from (entries_of t) 1 y) (items-of c (chosen (fields l) (entries_of t)) q)
-    ∙ (λ j. header ++ rows_from (e j) 1 (chosen (fields (o j)) (e j)))
+    ap (λ (y : List ℕ). header ++ rows_from (entries_of t) 1 y) (items-of c (request_candidates (fields l) (entries_of t)) q)
+    ∙ (λ j. header ++ rows_from (e j) 1 (request_candidates (fields (o j)) (e j)))
 
 -- the text is never longer than 512 bytes: an entry's numbers have at most three digits
 small_at : (ns : List (List ℕ)) (i : ℕ) → ((get_or (entries_in ns) i blank).logical_channel ≤ 255) × ((get_or (entries_in ns) i blank).depth ≤ 255)
-unfolding entry_of
+unfolding entry_read
 small_at [] i = (zero-le, zero-le)
 small_at (l ∷ ls) zero = (byte_most (fields l) 3, byte_most (fields l) 4)
 small_at (l ∷ ls) (suc i) = small_at ls i
@@ -91,15 +91,15 @@ rows_short ns p (i ∷ is) a n h =
     omega (arith, length-append (row_of e p i) (rows_from es (suc p) is))
 
 pub list-short : (ls : List (List ℕ)) → length ls ≤ 17 → length (list_text ls) ≤ 512
-unfolding list_text chosen
+unfolding list_text request_candidates
 list-short [] h = omega arith
 list-short (l ∷ ns) h =
     let fs = fields l in
     let es = entries_in ns in
-    let n : length es ≡ length ns = length-map ns (λ x. entry_of (fields x)) in
+    let n : length es ≡ length ns = length-map ns (λ x. entry_read (fields x)) in
     let k = few (byte_at fs 4) (flag_at fs 2) (flag_at fs 3) (hex_at 16 fs 1) es in
-    let r = rows_short ns 1 (chosen fs es) (below (byte_at fs 4) (flag_at fs 2) (flag_at fs 3) (hex_at 16 fs 1) es) (omega arith) (omega (arith, k)) in
-    omega (arith, length-append header (rows_from es 1 (chosen fs es)), r, k)
+    let r = rows_short ns 1 (request_candidates fs es) (below (byte_at fs 4) (flag_at fs 2) (flag_at fs 3) (hex_at 16 fs 1) es) (omega arith) (omega (arith, k)) in
+    omega (arith, length-append header (rows_from es 1 (request_candidates fs es)), r, k)
 
 pub bad-short : (n : ℕ) → length (bad_text n) ≤ 512
 unfolding bad_text

@@ -7,6 +7,6 @@ use Rattle.candidates.specs.Candidates.{items_of}
 use Rattle.candidates.specs.declared.CandidateList.{CandidateList}
 
 -- a list of at most 16 candidates, each an index of the table
-pub record Named (t : NeighborTable) (c : CandidateList) : Type 0 where
+pub record InTable (t : NeighborTable) (c : CandidateList) : Type 0 where
   pub few : c.count ≤ 16
   pub within : All (λ i. i < length (entries_of t)) (items_of c)

@@ -8,11 +8,11 @@ use Rattle.yard_list.specs.declared.Form.{Form}
 use Rattle.yard_list.specs.declared.Form.TheVariants.{RequestWord, EntryWord, Hex, Decimal}
 
 -- a field has a form: the word `request`, the word `n`, so many hexadecimal digits, or a decimal number of at most so much
-abbrev pub fits : Form → List ℕ → Bool
-fits RequestWord f = same_text f (bytes "request")
-fits EntryWord f = same_text f (bytes "n")
-fits (Hex digits) f = is_some (hex_of digits f)
-fits (Decimal limit) f = is_some (decimal_of limit f)
+abbrev pub has_form : Form → List ℕ → Bool
+has_form RequestWord f = same_text f (bytes "request")
+has_form EntryWord f = same_text f (bytes "n")
+has_form (Hex digits) f = is_some (hex_of digits f)
+has_form (Decimal limit) f = is_some (decimal_of limit f)
 
 -- line 1: `request`, extended PAN id, role, permit wanted, stack profile
 abbrev pub request_forms : List Form
@@ -24,15 +24,15 @@ entry_forms =
     EntryWord ∷ Hex 4 ∷ Hex 16 ∷ Decimal 255 ∷ Decimal 255 ∷ Decimal 1 ∷ Decimal 1 ∷ Decimal 1 ∷ Decimal 255 ∷ Decimal 255 ∷ Decimal 255 ∷ Hex 4 ∷ []
 
 -- as many fields as forms, each of its form
-abbrev pub all_fit : List Form → List (List ℕ) → Bool
-all_fit [] [] = true
-all_fit [] (f ∷ fs) = false
-all_fit (m ∷ ms) [] = false
-all_fit (m ∷ ms) (f ∷ fs) = fits m f && all_fit ms fs
+abbrev pub have_forms : List Form → List (List ℕ) → Bool
+have_forms [] [] = true
+have_forms [] (f ∷ fs) = false
+have_forms (m ∷ ms) [] = false
+have_forms (m ∷ ms) (f ∷ fs) = has_form m f && have_forms ms fs
 
 -- a line that is neither bad nor surplus; k lines stand before it. At most 16 follow the first
 unfoldable pub is_good : ℕ → List ℕ → Bool
-is_good k line = cond (eqb k 0) (all_fit request_forms (fields line)) (leb k 16 && all_fit entry_forms (fields line))
+is_good k line = cond (eqb k 0) (have_forms request_forms (fields line)) (leb k 16 && have_forms entry_forms (fields line))
 
 -- how many good lines there are before the first bad or surplus one; k lines stand before them
 abbrev pub good_from : ℕ → List (List ℕ) → ℕ
@@ -50,8 +50,8 @@ abbrev pub flag_at : List (List ℕ) → ℕ → Bool
 flag_at fs k = eqb (unwrap_or (decimal_of 1 (get_or fs k [])) 0) 1
 
 -- the neighbour entry of a line's fields: IEEE address 0 and relationship NONE (3), as a scan makes it (01, "Neighbour entry")
-unfoldable pub entry_of : List (List ℕ) → NwkNeighbor
-entry_of fs =
+unfoldable pub entry_read : List (List ℕ) → NwkNeighbor
+entry_read fs =
     record {
       extended_address = record { 0 = 0 };
       network_address = record { 0 = hex_at 4 fs 1 };
@@ -76,24 +76,24 @@ entry_of fs =
 
 -- the entries of lines
 abbrev pub entries_in : List (List ℕ) → List NwkNeighbor
-entries_in ls = map (λ l. entry_of (fields l)) ls
+entries_in ls = map (λ l. entry_read (fields l)) ls
 
 -- the candidates of the request whose fields are fs: role 1 is a router
-unfoldable pub chosen : List (List ℕ) → List NwkNeighbor → List ℕ
-chosen fs es = candidates (byte_at fs 4) (flag_at fs 2) (flag_at fs 3) (hex_at 16 fs 1) es
+unfoldable pub request_candidates : List (List ℕ) → List NwkNeighbor → List ℕ
+request_candidates fs es = candidates (byte_at fs 4) (flag_at fs 2) (flag_at fs 3) (hex_at 16 fs 1) es
 
 -- a column of a printed line, with the tab or line feed after it
-abbrev pub cell : List ℕ → ℕ → List ℕ
-cell t end = t ++ (end ∷ [])
+abbrev pub column : List ℕ → ℕ → List ℕ
+column t end = t ++ (end ∷ [])
 
 -- a candidate's line: place, index, address, channel, depth
 abbrev pub row_of : NwkNeighbor → ℕ → ℕ → List ℕ
 row_of e place i =
-    cell (decimal_text place) 9
-    ++ (cell (decimal_text i) 9
-    ++ (cell (hex_text 4 e.network_address.0) 9
-    ++ (cell (decimal_text e.logical_channel) 9
-    ++ cell (decimal_text e.depth) 10)))
+    column (decimal_text place) 9
+    ++ (column (decimal_text i) 9
+    ++ (column (hex_text 4 e.network_address.0) 9
+    ++ (column (decimal_text e.logical_channel) 9
+    ++ column (decimal_text e.depth) 10)))
 
 -- a line for each candidate, the first at a place
 abbrev pub rows_from : List NwkNeighbor → ℕ → List ℕ → List ℕ
@@ -103,20 +103,20 @@ rows_from es place (i ∷ is) = row_of (get_or es i blank) place i ++ rows_from 
 -- the header: the names of the columns
 abbrev pub header : List ℕ
 header =
-    cell (bytes "place") 9
-    ++ (cell (bytes "index") 9
-    ++ (cell (bytes "address") 9
-    ++ (cell (bytes "channel") 9
-    ++ cell (bytes "depth") 10)))
+    column (bytes "place") 9
+    ++ (column (bytes "index") 9
+    ++ (column (bytes "address") 9
+    ++ (column (bytes "channel") 9
+    ++ column (bytes "depth") 10)))
 
 -- the header, and a line for each candidate, place from 1
 unfoldable pub list_text : List (List ℕ) → List ℕ
 list_text [] = header
-list_text (l ∷ ls) = header ++ rows_from (entries_in ls) 1 (chosen (fields l) (entries_in ls))
+list_text (l ∷ ls) = header ++ rows_from (entries_in ls) 1 (request_candidates (fields l) (entries_in ls))
 
 -- `bad`, tab, a line's number, line feed
 unfoldable pub bad_text : ℕ → List ℕ
-bad_text n = bytes "bad" ++ (9 ∷ cell (decimal_text n) 10)
+bad_text n = bytes "bad" ++ (9 ∷ column (decimal_text n) 10)
 
 -- the lines of a text that are ended by a line feed, and what stands after the last line feed
 abbrev pub ended_lines : List ℕ → List (List ℕ)

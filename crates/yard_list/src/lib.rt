@@ -8,8 +8,8 @@ ghost use Rattle.nib.specs.Neighbors.{entries_of, table_of};
 ghost use Rattle.candidates.specs.Candidates.{list_of, items_of};
 ghost use Rattle.text.specs.Text.{parts, fields, decimal_text, hex_text};
 ghost use Rattle.text.specs.Writer.{with_text};
-ghost use Rattle.yard_list.specs.Private.{Named};
-ghost use Rattle.yard_list.specs.YardList.{fits, all_fit, is_good, good_from, hex_at, byte_at, flag_at, entry_of, entries_in, chosen, cell, row_of, rows_from, list_text, bad_text, yard_text};
+ghost use Rattle.yard_list.specs.Private.{InTable};
+ghost use Rattle.yard_list.specs.YardList.{has_form, have_forms, is_good, good_from, hex_at, byte_at, flag_at, entry_read, entries_in, request_candidates, column, row_of, rows_from, list_text, bad_text, yard_text};
 
 use candidates::CandidateList;
 use nib::{ExtendedPanId, MAX_NEIGBOUR_TABLE, NeighborTable, NwkNeighbor, PanId, ShortAddress};
@@ -17,6 +17,9 @@ use text::writer::Writer;
 
 // How many entries a list has at most: as many as a neighbour table.
 const MAX_ENTRIES: usize = MAX_NEIGBOUR_TABLE as usize;
+
+// The bytes of the buffer that a list is written into: a list has at most 338, of a header and 16 lines, and so there is no buffer that is too short.
+pub const LIST_BYTES: usize = 512;
 
 // What a field holds: a line's first word, a hexadecimal number of so many digits, or a decimal number of at most so much.
 #[derive(Clone, Copy)]
@@ -54,7 +57,7 @@ const ENTRY: [Form; 12] = [
 
 // Whether a field has a form.
 fn has_form(f: &[u8], form: Form) -> bool
-    ensures { result ≡ fits form f.now }
+    ensures { result ≡ has_form form f.now }
 {
     match form {
         Form::RequestWord => f == b"request".as_slice(),
@@ -66,7 +69,7 @@ fn has_form(f: &[u8], form: Form) -> bool
 
 // Whether each field of a line has the form at its place, as far as both go.
 fn fields_fit(line: &[u8], forms: &[Form]) -> bool
-    ensures { result ≡ list_all (λ p. fits p.1 p.0) (zip (fields line.now) forms.now) }
+    ensures { result ≡ list_all (λ p. has_form p.1 p.0) (zip (fields line.now) forms.now) }
 {
     line.split(|b| *b == b'\t')
         .zip(forms)
@@ -76,7 +79,7 @@ fn fields_fit(line: &[u8], forms: &[Form]) -> bool
 // Whether a line has as many fields as there are forms, each of its form.
 #[tactic(auto, using(crate::proofs::Lines::fit_long))]
 fn is_line(line: &[u8], forms: &[Form]) -> bool
-    ensures { result ≡ all_fit forms.now (fields line.now) }
+    ensures { result ≡ have_forms forms.now (fields line.now) }
 {
     text::part_count(line, b'\t') == forms.len() && fields_fit(line, forms)
 }
@@ -139,9 +142,9 @@ fn flag_at(line: &[u8], k: usize) -> bool
 }
 
 // The neighbour entry of a line.
-#[tactic(auto, unfolding(crate::specs::YardList::entry_of))]
+#[tactic(auto, unfolding(crate::specs::YardList::entry_read))]
 fn read_entry(line: &[u8]) -> NwkNeighbor
-    ensures { result ≡ entry_of (fields line.now) }
+    ensures { result ≡ entry_read (fields line.now) }
 {
     let address = short_at(line, 1);
     let device_type = nib::device_type_at(ShortAddress(address));
@@ -175,7 +178,7 @@ fn read_entry(line: &[u8]) -> NwkNeighbor
 
 // The table of the entries of `count` lines after the first.
 fn read_table(input: &[u8], count: usize) -> NeighborTable
-    requires { count ≤ 16 }
+    requires { count ≤ MAX_NEIGBOUR_TABLE }
     ensures { result ≡ table_of (entries_in (take count (drop 1 (parts 10 input.now)))) }
 {
     input
@@ -188,9 +191,9 @@ fn read_table(input: &[u8], count: usize) -> NeighborTable
 }
 
 // The candidates of a request among the entries of a table.
-#[tactic(auto, unfolding(crate::specs::YardList::chosen))]
-fn choose(line: &[u8], table: NeighborTable) -> CandidateList
-    ensures { result ≡ list_of (chosen (fields line.now) (entries_of table)) }
+#[tactic(auto, unfolding(crate::specs::YardList::request_candidates))]
+fn request_candidates(line: &[u8], table: NeighborTable) -> CandidateList
+    ensures { result ≡ list_of (request_candidates (fields line.now) (entries_of table)) }
 {
     let stack_profile = byte_at(line, 4);
     let extended_pan_id = ExtendedPanId(hex_at(line, 16, 1));
@@ -208,7 +211,7 @@ fn choose(line: &[u8], table: NeighborTable) -> CandidateList
 // Writes a column with a number.
 #[tactic(auto, using(text::proofs::Written::in_turn))]
 fn write_number(out: &mut Writer, n: u8, end: u8)
-    ensures { out.new ≡ with_text out.old (cell (decimal_text n) end) }
+    ensures { out.new ≡ with_text out.old (column (decimal_text n) end) }
 {
     out.write_decimal(u32::from(n));
     out.write(&[end]);
@@ -217,7 +220,7 @@ fn write_number(out: &mut Writer, n: u8, end: u8)
 // Writes a column with an address.
 #[tactic(auto, using(text::proofs::Written::in_turn))]
 fn write_address(out: &mut Writer, address: u16)
-    ensures { out.new ≡ with_text out.old (cell (hex_text 4 address) 9) }
+    ensures { out.new ≡ with_text out.old (column (hex_text 4 address) 9) }
 {
     out.write_hex(u64::from(address), 4);
     out.write(b"\t");
@@ -238,7 +241,7 @@ fn write_row(out: &mut Writer, place: u8, index: u8, e: NwkNeighbor)
 // Writes a line for each candidate.
 #[tactic(auto, using(text::proofs::Written::in_turn, crate::proofs::Rows::rows_next))]
 fn write_rows(out: &mut Writer, table: NeighborTable, list: CandidateList)
-    requires { Named table list }
+    requires { InTable table list }
     ensures { out.new ≡ with_text out.old (rows_from (entries_of table) 1 (items_of list)) }
 {
     let entries = table.used();
@@ -248,13 +251,13 @@ fn write_rows(out: &mut Writer, table: NeighborTable, list: CandidateList)
 }
 
 // Writes the header and the candidates of an input whose first `ended` lines are good.
-#[tactic(auto, using(crate::proofs::Rows::named))]
+#[tactic(auto, using(crate::proofs::Rows::in_table))]
 fn write_list(out: &mut Writer, input: &[u8], ended: usize)
     requires { (0 < ended) × (ended ≤ 17) × (ended < length (parts 10 input.now)) }
     ensures { out.new ≡ with_text out.old (list_text (take ended (parts 10 input.now))) }
 {
     let table = read_table(input, ended - 1);
-    let list = choose(text::part(input, b'\n', 0), table);
+    let list = request_candidates(text::part(input, b'\n', 0), table);
     out.write(b"place\tindex\taddress\tchannel\tdepth\n");
     write_rows(out, table, list);
 }
@@ -270,7 +273,7 @@ fn write_bad(out: &mut Writer, number: usize)
 }
 
 // Whether nothing stands after the last line feed.
-fn is_ended(input: &[u8], ended: usize) -> bool
+fn has_no_rest(input: &[u8], ended: usize) -> bool
     ensures { result ≡ eqb (length (get_or (parts 10 input.now) ended [])) 0 }
 {
     text::part(input, b'\n', ended).is_empty()
@@ -289,15 +292,15 @@ fn write_yard_list(out: &mut Writer, input: &[u8])
     if good != ended {
         return write_bad(out, good + 1);
     }
-    if !is_ended(input, ended) {
+    if !has_no_rest(input, ended) {
         return write_bad(out, good + 1);
     }
     write_list(out, input, ended);
 }
 
-// Writes the yard list of an input and returns its length, which is at most 512.
+// Writes the yard list of an input and returns its length, which is at most `LIST_BYTES`.
 #[tactic(auto, unfolding(text::specs::Writer::with_text), using(text::proofs::Written::from_start, crate::proofs::Rows::yard_short))]
-pub fn yard_list(input: &[u8], out: &mut [u8; 512]) -> usize
+pub fn yard_list(input: &[u8], out: &mut [u8; LIST_BYTES]) -> usize
     ensures { (result ≡ length (yard_text input.now)) × (out.new ≡ over out.old (yard_text input.now)) }
 {
     let mut list = Writer::new(out);

@@ -20,7 +20,7 @@ const USAGE: &[u8] = b"Usage: yardlist < YARD\n\
     docs/YARDLIST.md has the format and an example. Any argument prints this text.\n";
 
 fn print_list(edges: &Edges<HostRuntime>, input: &[u8]) {
-    let mut out = [0u8; 512];
+    let mut out = [0u8; yard_list::LIST_BYTES];
     let length = yard_list::yard_list(input, &mut out);
     let _ = edges.write(&out[..length]);
 }

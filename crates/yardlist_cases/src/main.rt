@@ -12,7 +12,7 @@ fn run(edges: &Edges<HostRuntime>, case: &[u8]) -> Result<(), Failed> {
     if case.len() < n {
         return Ok(());
     }
-    let mut out = [0u8; 512];
+    let mut out = [0u8; yard_list::LIST_BYTES];
     let length = yard_list::yard_list(&case[n..], &mut out);
     edges.write(b"# ")?;
     edges.write(name)?;

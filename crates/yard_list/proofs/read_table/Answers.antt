@@ -12,19 +12,19 @@ use Rattle.std.specs.List.{fold}
 use Rattle.nib.specs.Neighbors.{pushed}
 use Rattle.nib.specs.declared.NeighborTable.{NeighborTable}
 use Rattle.text.specs.Text.{parts, fields}
-use Rattle.yard_list.specs.YardList.{entry_of}
+use Rattle.yard_list.specs.YardList.{entry_read}
 use Rattle.yard_list.proofs.Lines.{table-of}
 use Rattle.yard_list.proofs.read_table.Goals as goal
 
 pub returns : goal.returns
 returns c =
     let ls = take c.args.count (drop 1 (parts 10 c.args.input.now)) in
-    fold_from_yields_List _ (λ t l. pushed t (entry_of (fields l))) _ _ c.fold.ensures.ran (
+    fold_from_yields_List _ (λ t l. pushed t (entry_read (fields l))) _ _ c.fold.ensures.ran (
     YieldsList-from_take c.args.count
     (YieldsList-at c.take.ensures.source (YieldsList-from_skip 1
     (YieldsList-at c.skip.ensures.source (YieldsList-from_slice_split _ (λ b. eqb b 10) c.args.input.now c.split.ensures.rest c.split.ensures.done c.split.ensures.closure (λ x b q k. search (rules, tests))))
     c.skip.ensures.count))
     c.take.ensures.count
     ) (λ a x b q k. search (rules, tests))
-    ∙ ap (λ (t : NeighborTable). fold (λ t l. pushed t (entry_of (fields l))) t ls) c.new.ensures
+    ∙ ap (λ (t : NeighborTable). fold (λ t l. pushed t (entry_read (fields l))) t ls) c.new.ensures
     ∙ table-of [] ls (omega (arith, c.requires, length-take c.args.count (drop 1 (parts 10 c.args.input.now))))

@@ -2,7 +2,7 @@
 use Rattle.std.proofs.Common.{arith, sym}
 use Rattle.std.proofs.Math.Seq.{length-take-le}
 use Rattle.text.proofs.Numbers.{decimal-long}
-use Rattle.tables.proofs.print.Goals as goal
+use Rattle.tables.proofs.print_number.Goals as goal
 
 pub slice_bounds-digits-end : goal.slice_bounds-digits-end
 slice_bounds-digits-end c = omega (arith, decimal-long c.args.n)
