@@ -32,7 +32,7 @@ impl From<Failed> for Over {
 
 // Answers a line that is ended. `nodetrace_cases` has the same: one for both would be a crate more, since `trace` prints nothing and `filter` knows no run.
 fn answer(edges: &Edges<HostRuntime>, run: Run, line: &[u8]) -> Result<Run, Over> {
-    let mut out = [0u8; 16384];
+    let mut out = [0u8; trace::TURN_BYTES];
     let next = run.answer_line(line, &mut out);
     edges.write(&out[..next.length])?;
     if next.good { Ok(next) } else { Err(Over) }

@@ -1,4 +1,4 @@
 -- The laws of `trace`.
 pub mod Lists
 pub mod Pages
-pub mod Named
+pub mod Words

@@ -14,7 +14,7 @@ use Rattle.trace_lines.specs.TraceLines.{line_text}
 use Rattle.trace_lines.proofs.Texts.{line-short}
 use Rattle.trace.specs.declared.Run.{Run}
 use Rattle.trace.specs.Lines.{Line}
-use Rattle.trace.specs.Trace.{some_text, lines_text, each_line, printed, after}
+use Rattle.trace.specs.Trace.{some_text, lines_text, each_line, printed, run_after}
 
 -- a line prints at most 420 bytes, and so do lines in turn
 pub some-short : (l : Option Line) → length (some_text l) ≤ 420
@@ -54,8 +54,8 @@ pub ruleset each_by_each = (in_turn, each-next, lines_none)
 pub ruleset whole = (from_start, same_buffer)
 
 -- what a line prints is a prefix of the buffer after it
-pub printed-prefix : (line : List ℕ) (r r' : Run) (o o' : List ℕ) → r' ≡ after line r → o' ≡ over o (printed line r) → (r'.length ≤ length o') × (r'.length ≡ length (take r'.length o'))
-unfolding after
+pub printed-prefix : (line : List ℕ) (r r' : Run) (o o' : List ℕ) → r' ≡ run_after line r → o' ≡ over o (printed line r) → (r'.length ≤ length o') × (r'.length ≡ length (take r'.length o'))
+unfolding run_after
 printed-prefix line r r' o o' e f =
     let n : r'.length ≡ length (printed line r) = ap (λ (x : Run). x.length) e in
     let h : r'.length ≤ length o' = omega (arith, n, simp length-append at (ap length f)) in

@@ -14,7 +14,7 @@ use Rattle.node.specs.Calls.{page_answer}
 use Rattle.node.specs.declared.State.{State}
 use Rattle.trace_lines.specs.TraceLines.{line_of, line_text}
 use Rattle.trace_input.specs.TraceInput.{call_of}
-use Rattle.trace_calls.specs.TraceCalls.{before, taken}
+use Rattle.trace_calls.specs.TraceCalls.{before, turn_taken}
 use Rattle.trace_calls.specs.declared.Session.{Session}
 use Rattle.trace_calls.specs.declared.Answered.{Answered}
 use Rattle.trace_calls.specs.declared.Said.{Said}
@@ -90,17 +90,17 @@ abbrev pub text_of : ℕ → Turn → List ℕ
 text_of n t = text_by t.said n t.session.state
 
 -- the line is not of the format
-abbrev pub is_bad : Said → Bool
-is_bad Bad = true
-is_bad Nothing = false
-is_bad (Told a) = false
-is_bad (Chosen choice) = false
-is_bad Shown = false
-is_bad (Paged k) = false
+abbrev pub says_bad : Said → Bool
+says_bad Bad = true
+says_bad Nothing = false
+says_bad (Told a) = false
+says_bad (Chosen choice) = false
+says_bad Shown = false
+says_bad (Paged k) = false
 
 -- the call that a line says, made on the session
 unfoldable pub turn_of : List ℕ → Session → Turn
-turn_of line s = taken (option_map call_of (line_of line)) s
+turn_of line s = turn_taken (option_map call_of (line_of line)) s
 
 -- lines are counted from 1, up to the greatest number of 32 bits
 abbrev pub number_after : ℕ → ℕ
@@ -114,11 +114,11 @@ run_before = record { session = before; number = 0; good = true; length = 0 }
 unfoldable pub printed : List ℕ → Run → List ℕ
 printed line r = text_of (number_after r.number) (turn_of line r.session)
 
-unfoldable pub after : List ℕ → Run → Run
-after line r =
+unfoldable pub run_after : List ℕ → Run → Run
+run_after line r =
     record {
       session = (turn_of line r.session).session;
       number = number_after r.number;
-      good = not (is_bad (turn_of line r.session).said);
+      good = not (says_bad (turn_of line r.session).said);
       length = length (printed line r);
     }

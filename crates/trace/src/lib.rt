@@ -45,9 +45,10 @@ ghost use Rattle.trace.specs.Lines.{
   choice_line,
   bad_line,
 };
-ghost use Rattle.trace.specs.Trace.{some_text, lines_text, networks_of, network_count, each_line, told_lines, nlme_lines, state_lines, page_bytes, page_text, text_of, is_bad, turn_of, number_after, run_before, printed, after};
+ghost use Rattle.trace.specs.Trace.{some_text, lines_text, networks_of, network_count, each_line, told_lines, nlme_lines, state_lines, page_bytes, page_text, text_of, says_bad, turn_of, number_after, run_before, printed, run_after};
 
 use candidates::CandidateList;
+use discovery::mlme::MAX_PAN_DESCRIPTOR_SIZE;
 use discovery::{NetworkDescriptor, NlmeNetworkDiscoveryConfirm};
 use management::frame::{CommandHeader, DataHeader, SentCommand, SentFrame};
 use management::{
@@ -55,14 +56,18 @@ use management::{
     NlmeJoinStatus, NlmeLeaveIndication, NlmeNwkStatusIndication, PollAnswer, RejoinResponse,
     ScanRange, SendAnswer, Signals,
 };
-use nib::{DeviceType, NeighborTable, Nib, NwkNeighbor};
+use nib::{DeviceType, MAX_NEIGBOUR_TABLE, NeighborTable, Nib, NwkNeighbor};
 use nlme::{Nlme, Transmission};
 use node::State;
 use operation::{AssociateRequest, Note, RadioRequest, Refusal, Step};
 use supervision::TransmitFailure;
 use text::writer::Writer;
 use trace_calls::{Answered, Said, Session, Turn};
-use trace_lines::{Field, Word, put_line};
+use trace_lines::{Field, MAX_PAGE_BYTES, Word, put_line};
+
+// The bytes of the buffer that a line's answer is written into: a turn prints at most 38 lines of at most 420 bytes, 15,960 in all, and this is the next power
+// of two.
+pub const TURN_BYTES: usize = 16384;
 
 // The session after the lines so far, how many they were, whether the last of them was of the format, and how many bytes it printed.
 #[derive(Clone, Copy)]
@@ -83,7 +88,7 @@ pub struct Run {
 fn print_word(out: &mut Writer, word: Word)
     ensures { out.new ≡ with_text out.old (line_text (word_line word)) }
 {
-    put_line(out, &[Field::Word(word)])
+    put_line(out, &[Field::Named(word)])
 }
 
 fn print_refusal(out: &mut Writer, refusal: Refusal)
@@ -91,7 +96,7 @@ fn print_refusal(out: &mut Writer, refusal: Refusal)
 {
     put_line(
         out,
-        &[Field::Word(Word::Refused), Field::U8(refusal.number())],
+        &[Field::Named(Word::Refused), Field::U8(refusal.number())],
     )
 }
 
@@ -131,7 +136,7 @@ fn print_nib(out: &mut Writer, nib: Nib, nwk_seq: u8, pending: u8, timer: u32)
     put_line(
         out,
         &[
-            Field::Word(Word::Node),
+            Field::Named(Word::Node),
             Field::Short(nib.network_address.0),
             Field::Long(nib.ieee_address.0),
             Field::Long(nib.extended_panid.0),
@@ -178,7 +183,7 @@ impl Printed for NwkNeighbor {
         put_line(
             out,
             &[
-                Field::Word(Word::E),
+                Field::Named(Word::E),
                 Field::Long(self.extended_address.0),
                 Field::Short(self.network_address.0),
                 Field::U8(device_type_number(self.device_type)),
@@ -210,7 +215,7 @@ impl Printed for TransmitFailure {
         put_line(
             out,
             &[
-                Field::Word(Word::F),
+                Field::Named(Word::F),
                 Field::Short(self.address.0),
                 Field::U8(self.count),
             ],
@@ -225,7 +230,7 @@ impl Printed for RejoinResponse {
         put_line(
             out,
             &[
-                Field::Word(Word::RejoinResponse),
+                Field::Named(Word::RejoinResponse),
                 Field::Short(self.network_address.0),
                 Field::U8(self.status),
             ],
@@ -240,7 +245,7 @@ impl Printed for EndDeviceTimeoutResponse {
         put_line(
             out,
             &[
-                Field::Word(Word::TimeoutResponse),
+                Field::Named(Word::TimeoutResponse),
                 Field::U8(self.status),
                 Field::U8(self.parent_information),
             ],
@@ -266,7 +271,7 @@ impl Printed for NlmeLeaveIndication {
         put_line(
             out,
             &[
-                Field::Word(Word::LeaveIndication),
+                Field::Named(Word::LeaveIndication),
                 device_field(self.device),
                 Field::Flag(self.rejoin),
             ],
@@ -281,7 +286,7 @@ impl Printed for NlmeNwkStatusIndication {
         put_line(
             out,
             &[
-                Field::Word(Word::StatusIndication),
+                Field::Named(Word::StatusIndication),
                 Field::Short(self.network_address.0),
             ],
         )
@@ -315,12 +320,12 @@ impl Printed for Note {
     fn print(self, out: &mut Writer) {
         match self {
             Note::SetChannel(channel) => {
-                put_line(out, &[Field::Word(Word::SetChannel), Field::U8(channel)])
+                put_line(out, &[Field::Named(Word::SetChannel), Field::U8(channel)])
             }
             Note::SetAddress(address) => {
                 put_line(
                     out,
-                    &[Field::Word(Word::SetAddress), Field::Short(address.0)],
+                    &[Field::Named(Word::SetAddress), Field::Short(address.0)],
                 )
             }
         }
@@ -333,7 +338,7 @@ fn print_scan(out: &mut Writer, range: ScanRange)
     put_line(
         out,
         &[
-            Field::Word(Word::Scan),
+            Field::Named(Word::Scan),
             Field::U8(range.first),
             Field::U8(range.past),
             Field::U8(range.duration),
@@ -348,7 +353,7 @@ fn print_associate(out: &mut Writer, request: AssociateRequest)
     put_line(
         out,
         &[
-            Field::Word(Word::Associate),
+            Field::Named(Word::Associate),
             Field::U8(request.channel),
             Field::Short(request.pan_id.0),
             Field::Short(request.address.0),
@@ -367,10 +372,10 @@ fn print_data(out: &mut Writer, t: Transmission, h: DataHeader)
     put_line(
         out,
         &[
-            Field::Word(Word::Transmit),
+            Field::Named(Word::Transmit),
             Field::Short(t.pan_id.0),
             Field::Short(t.address.0),
-            Field::Word(Word::DataFrame),
+            Field::Named(Word::DataFrame),
             Field::Short(h.destination.0),
             Field::Short(h.source.0),
             Field::U8(h.sequence_number),
@@ -390,10 +395,10 @@ fn command_fields(
     ensures { result ≡ command_line t.pan_id t.address h word (first ∷ second ∷ []) }
 {
     [
-        Field::Word(Word::Transmit),
+        Field::Named(Word::Transmit),
         Field::Short(t.pan_id.0),
         Field::Short(t.address.0),
-        Field::Word(word),
+        Field::Named(word),
         Field::Short(h.destination.0),
         Field::OrDash(h.destination_ieee.map(|ieee| ieee.0)),
         Field::Short(h.source.0),
@@ -452,7 +457,7 @@ fn print_request(out: &mut Writer, request: RadioRequest)
             put_line(
                 out,
                 &[
-                    Field::Word(Word::Poll),
+                    Field::Named(Word::Poll),
                     Field::Short(pan_id.0),
                     Field::Short(address.0),
                 ],
@@ -505,8 +510,8 @@ fn negotiation_field(a: NegotiationAnswer) -> Field
     match a {
         NegotiationAnswer::Negotiated => Field::U8(1),
         NegotiationAnswer::NotNegotiated => Field::U8(0),
-        NegotiationAnswer::NegotiationNotJoined => Field::Word(Word::NotJoined),
-        NegotiationAnswer::NegotiationMacError => Field::Word(Word::MacError),
+        NegotiationAnswer::NegotiationNotJoined => Field::Named(Word::NotJoined),
+        NegotiationAnswer::NegotiationMacError => Field::Named(Word::MacError),
     }
 }
 
@@ -525,8 +530,8 @@ fn print_confirm(out: &mut Writer, c: NlmeJoinConfirm)
     put_line(
         out,
         &[
-            Field::Word(Word::Confirm),
-            Field::Word(status_word(c.status)),
+            Field::Named(Word::Confirm),
+            Field::Named(status_word(c.status)),
             Field::Short(c.network_address.0),
             Field::Long(c.extended_pan_id.0),
             Field::U8(c.channel),
@@ -536,9 +541,9 @@ fn print_confirm(out: &mut Writer, c: NlmeJoinConfirm)
 
 // An answer's word, and what is answered.
 fn print_answer(out: &mut Writer, word: Word, answer: Field)
-    ensures { out.new ≡ with_text out.old (line_text (Field.Word word ∷ answer ∷ [])) }
+    ensures { out.new ≡ with_text out.old (line_text (Field.Named word ∷ answer ∷ [])) }
 {
-    put_line(out, &[Field::Word(word), answer])
+    put_line(out, &[Field::Named(word), answer])
 }
 
 // What was taken, or that the slot was empty.
@@ -562,11 +567,11 @@ fn print_step(out: &mut Writer, step: Step, discovered: u8)
         Step::Discovered => print_answer(out, Word::Discovered, Field::U8(discovered)),
         Step::DiscoveryFailed => print_word(out, Word::DiscoveryFailed),
         Step::Joined(confirm) => print_confirm(out, confirm),
-        Step::Sent(a) => print_answer(out, Word::SendAnswer, Field::Word(send_word(a))),
-        Step::Polled(a) => print_answer(out, Word::PollAnswer, Field::Word(poll_word(a))),
+        Step::Sent(a) => print_answer(out, Word::SendAnswer, Field::Named(send_word(a))),
+        Step::Polled(a) => print_answer(out, Word::PollAnswer, Field::Named(poll_word(a))),
         Step::NegotiationOver(a) => print_answer(out, Word::Negotiated, negotiation_field(a)),
         Step::KeepaliveOver(a) => {
-            print_answer(out, Word::KeepaliveAnswer, Field::Word(keepalive_word(a)))
+            print_answer(out, Word::KeepaliveAnswer, Field::Named(keepalive_word(a)))
         }
         Step::Expired(expired) => print_answer(out, Word::Expired, Field::Flag(expired)),
         Step::LeaveTaken(slot) => print_taken(out, slot),
@@ -583,7 +588,7 @@ impl Printed for NetworkDescriptor {
         put_line(
             out,
             &[
-                Field::Word(Word::D),
+                Field::Named(Word::D),
                 Field::Long(self.extended_pan_id.0),
                 Field::Short(self.pan_id.0),
                 Field::U8(self.update_id),
@@ -610,7 +615,7 @@ fn network_count(networks: &Option<NlmeNetworkDiscoveryConfirm>) -> u8
 // The networks that it found.
 fn networks_of(networks: &Option<NlmeNetworkDiscoveryConfirm>) -> &[NetworkDescriptor]
     ensures value { result.now ≡ networks_of networks.now }
-    ensures few { length result.now ≤ 27 }
+    ensures few { length result.now ≤ MAX_PAN_DESCRIPTOR_SIZE }
 {
     match networks {
         None => &[],
@@ -630,12 +635,15 @@ fn print_told(out: &mut Writer, told: Answered)
     print_each(out, networks_of(&told.networks));
 }
 
+// How many fields a line of candidates has at most: its word, and the index of each entry that a table has room for.
+const CANDIDATE_FIELDS: usize = 1 + MAX_NEIGBOUR_TABLE as usize;
+
 // The candidates' indexes, as many fields as there are.
 fn print_candidates(out: &mut Writer, list: CandidateList)
     ensures { out.new ≡ with_text out.old (line_text (candidates_line (items_of list))) }
 {
     let used = list.used();
-    let mut fields = [Field::Word(Word::Candidates); 17];
+    let mut fields = [Field::Named(Word::Candidates); CANDIDATE_FIELDS];
     for (i, index) in used.iter().enumerate() {
         fields[i + 1] = Field::U8(*index);
     }
@@ -656,14 +664,14 @@ fn print_choice(out: &mut Writer, choice: Result<CandidateList, Refusal>)
 fn print_bad(out: &mut Writer, number: u32)
     ensures { out.new ≡ with_text out.old (line_text (bad_line number)) }
 {
-    put_line(out, &[Field::Word(Word::Bad), Field::U32(number)])
+    put_line(out, &[Field::Named(Word::Bad), Field::U32(number)])
 }
 
 // The entries of a neighbour table.
 #[tactic(auto, using(crate::proofs::Lists::line_by_line))]
 fn print_table(out: &mut Writer, table: NeighborTable)
     ensures value { out.new ≡ with_text out.old (lines_text (each_line entry_line (entries_of table))) }
-    ensures few { length (each_line entry_line (entries_of table)) ≤ 16 }
+    ensures few { length (each_line entry_line (entries_of table)) ≤ MAX_NEIGBOUR_TABLE }
 {
     print_each(out, table.used());
 }
@@ -692,13 +700,13 @@ fn print_state(out: &mut Writer, state: State)
 
 // The bytes that are lent for a page: no line of the format asks for more than 1,024.
 fn lent_bytes(bytes: u16) -> usize
-    ensures { result ≡ min bytes 1024 }
+    ensures { result ≡ min bytes MAX_PAGE_BYTES }
 {
-    usize::from(bytes).min(1024)
+    usize::from(bytes).min(MAX_PAGE_BYTES)
 }
 
 // Lends the start of some bytes for a page, and hands on the step that is answered.
-fn lend_page(page: &mut [u8; 1024], state: State, bytes: u16) -> Step
+fn lend_page(page: &mut [u8; MAX_PAGE_BYTES], state: State, bytes: u16) -> Step
     ensures step { result ≡ (page_answer bytes state).step }
     ensures page { page.new ≡ over page.old (page_bytes result (entries_of state.table)) }
 {
@@ -710,7 +718,7 @@ fn lend_page(page: &mut [u8; 1024], state: State, bytes: u16) -> Step
 fn print_page(out: &mut Writer, state: State, bytes: u16)
     ensures { out.new ≡ with_text out.old (page_text bytes state) }
 {
-    let mut page = [0; 1024];
+    let mut page = [0; MAX_PAGE_BYTES];
     let step = lend_page(&mut page, state, bytes);
     print_step(out, step, 0);
     if let Step::PageWritten = step {
@@ -720,9 +728,9 @@ fn print_page(out: &mut Writer, state: State, bytes: u16)
 
 // What is printed of a turn, which line `number` of the trace is.
 #[tactic(auto, using(crate::proofs::Pages::said))]
-fn print(out: &mut Writer, number: u32, turn: Turn)
+fn print_turn(out: &mut Writer, number: u32, turn: Turn)
     ensures value { out.new ≡ with_text out.old (text_of number turn) }
-    ensures short { length (text_of number turn) ≤ 16384 }
+    ensures short { length (text_of number turn) ≤ TURN_BYTES }
 {
     match turn.said {
         Said::Bad => print_bad(out, number),
@@ -736,18 +744,18 @@ fn print(out: &mut Writer, number: u32, turn: Turn)
 
 // All that a turn prints, from the start of a buffer, and how many bytes that is.
 #[tactic(auto, using(crate::proofs::Lists::whole))]
-fn print_whole(out: &mut [u8; 16384], number: u32, turn: Turn) -> usize
+fn print_whole(out: &mut [u8; TURN_BYTES], number: u32, turn: Turn) -> usize
     ensures { (result ≡ length (text_of number turn)) × (out.new ≡ over out.old (text_of number turn)) }
 {
     let mut lines = Writer::new(out);
-    print(&mut lines, number, turn);
+    print_turn(&mut lines, number, turn);
     lines.place()
 }
 
 // A line answered.
 
-fn is_bad(said: Said) -> bool
-    ensures { result ≡ is_bad said }
+fn says_bad(said: Said) -> bool
+    ensures { result ≡ says_bad said }
 {
     matches!(said, Said::Bad)
 }
@@ -781,15 +789,15 @@ impl Run {
     }
 
     // Answers a line; what is printed is written at the start of a buffer.
-    #[tactic(auto, unfolding(crate::specs::Trace::after, crate::specs::Trace::printed))]
-    pub fn answer_line(self, line: &[u8], out: &mut [u8; 16384]) -> Run
-        ensures { (result ≡ after line.now self) × (out.new ≡ over out.old (printed line.now self)) }
+    #[tactic(auto, unfolding(crate::specs::Trace::run_after, crate::specs::Trace::printed))]
+    pub fn answer_line(self, line: &[u8], out: &mut [u8; TURN_BYTES]) -> Run
+        ensures { (result ≡ run_after line.now self) × (out.new ≡ over out.old (printed line.now self)) }
     {
         let number = number_after(self.number);
         let turn = turn_of(self.session, line);
         let length = print_whole(out, number, turn);
         let session = turn.session;
-        let good = !is_bad(turn.said);
+        let good = !says_bad(turn.said);
         Run {
             session,
             number,

@@ -20,8 +20,8 @@ use Rattle.node.specs.declared.State.{State}
 use Rattle.node.specs.declared.Answer.{Answer}
 use Rattle.node.specs.declared.ScanAnswer.{ScanAnswer}
 use Rattle.trace_input.specs.declared.NodeFields.{NodeFields}
-use Rattle.trace_input.specs.declared.Call.{Call}
-use Rattle.trace_input.specs.declared.Call.TheVariants.{Node, Entry, Failure, Discovery, Join, Send, Poll, Receive, Negotiate, Keepalive, Scan, Beacon, ScanFailed, Association, Transmission, Reception, Tick, TakeLeave, TakeStatus, Choose, PrintState, Page, Refresh}
+use Rattle.trace_input.specs.declared.TraceCall.{TraceCall}
+use Rattle.trace_input.specs.declared.TraceCall.TheVariants.{Node, Entry, Failure, Discovery, Join, Send, Poll, Receive, Negotiate, Keepalive, Scan, Beacon, ScanFailed, Association, Transmission, Reception, Tick, TakeLeave, TakeStatus, Choose, PrintState, Page, Refresh}
 use Rattle.trace_calls.specs.declared.Stage.{Stage}
 use Rattle.trace_calls.specs.declared.Stage.TheVariants.{NoNode, SettingUp, Running}
 use Rattle.trace_calls.specs.declared.Session.{Session}
@@ -36,8 +36,8 @@ use Rattle.discovery.specs.declared.mlme.MacError.{MacError}
 abbrev pub own_part : NodeFields → Nlme
 own_part l = with_timer (record { remaining_ms = l.remaining_ms }) (with_pending l.pending_timeout_request (new_nlme l.nib l.nwk_seq))
 
-unfoldable pub begun : NodeFields → State
-begun l = with_node (own_part l) (new_state l.nib l.nwk_seq)
+unfoldable pub node_begun : NodeFields → State
+node_begun l = with_node (own_part l) (new_state l.nib l.nwk_seq)
 
 -- a `node` line of zeros: what stands in the place of a node before the first
 abbrev pub no_node : NodeFields
@@ -87,19 +87,19 @@ with_beacon missing d l = record { descriptors = set l.descriptors (l.count - mi
 
 -- before the first line
 abbrev pub before : Session
-before = record { state = begun no_node; stage = NoNode; missing = 0; scan = unheard 0 }
+before = record { state = node_begun no_node; stage = NoNode; missing = 0; beacons = unheard 0 }
 
 -- after `node`, and `e` and `f` behind it
 abbrev pub set_up : State → Session → Session
-set_up st s = record { state = st; stage = SettingUp; missing = 0; scan = s.scan }
+set_up st s = record { state = st; stage = SettingUp; missing = 0; beacons = s.beacons }
 
 -- after a call, with the state that it leaves
 abbrev pub running : State → PanDescriptorList → Session
-running st scan = record { state = st; stage = Running; missing = 0; scan = scan }
+running st beacons = record { state = st; stage = Running; missing = 0; beacons = beacons }
 
 -- in the midst of a scan's beacons
-abbrev pub awaiting : ℕ → PanDescriptorList → Session → Session
-awaiting n l s = record { state = s.state; stage = Running; missing = n; scan = l }
+abbrev pub beacons_due : ℕ → PanDescriptorList → Session → Session
+beacons_due n l s = record { state = s.state; stage = Running; missing = n; beacons = l }
 
 -- What a line says
 
@@ -107,30 +107,30 @@ abbrev pub saying : Said → Session → Turn
 saying w s = record { session = s; said = w }
 
 -- a line that is not of the format leaves the session
-abbrev pub bad : Session → Turn
-bad s = saying said.Bad s
+abbrev pub saying_bad : Session → Turn
+saying_bad s = saying said.Bad s
 
 abbrev pub nothing : Session → Turn
 nothing s = saying said.Nothing s
 
 -- what a call answers, with the networks that a discovery found
-abbrev pub answered : Answer → Option NlmeNetworkDiscoveryConfirm → Answered
-answered a n = record { reset = a.reset; note = a.note; step = a.step; networks = n }
+abbrev pub answer_with_networks : Answer → Option NlmeNetworkDiscoveryConfirm → Answered
+answer_with_networks a n = record { reset = a.reset; note = a.note; step = a.step; networks = n }
 
 -- the beacons of the last scan stay
 abbrev pub told : Answer → Option NlmeNetworkDiscoveryConfirm → PanDescriptorList → Turn
-told a n scan = saying (said.Told (answered a n)) (running a.state scan)
+told a n beacons = saying (said.Told (answer_with_networks a n)) (running a.state beacons)
 
 -- what the outcome of a scan answers
 abbrev pub confirm_told : ScanAnswer → PanDescriptorList → Turn
-confirm_told a scan = told a.answer a.confirm scan
+confirm_told a beacons = told a.answer a.confirm beacons
 
 abbrev pub scan_told : Result PanDescriptorList MacError → Session → Turn
-scan_told o s = confirm_told (scanned o s.state) s.scan
+scan_told o s = confirm_told (scanned o s.state) s.beacons
 
 -- "count n; then n `b` lines": the outcome reaches the node with the last of them, at once where there are none. n of them are still to come
 abbrev pub scan_after : ℕ → PanDescriptorList → Session → Turn
-scan_after n l s = cond (eqb n 0) (scan_told (Ok l) s) (nothing (awaiting n l s))
+scan_after n l s = cond (eqb n 0) (scan_told (Ok l) s) (nothing (beacons_due n l s))
 
 -- the failure pairs, and one more of them behind those in use; a full record stays
 abbrev pub pairs : State → TransmitFailures
@@ -143,41 +143,41 @@ abbrev pub with_pair : TransmitFailure → TransmitFailures → TransmitFailures
 with_pair p f = cond (ltb f.count 16) (record { pairs = set f.pairs f.count p; count = f.count + 1 }) f
 
 -- the choice of candidates on the present table
-abbrev pub chosen : ℕ → Bool → Bool → Session → Turn
-chosen n router permit s = saying (said.Chosen (choose n router permit s.state)) (running s.state s.scan)
+abbrev pub choice_told : ℕ → Bool → Bool → Session → Turn
+choice_told n router permit s = saying (said.Chosen (choose n router permit s.state)) (running s.state s.beacons)
 
-abbrev pub shown : Session → Turn
-shown s = saying said.Shown (running s.state s.scan)
+abbrev pub state_told : Session → Turn
+state_told s = saying said.Shown (running s.state s.beacons)
 
 -- a page, by the length of the lent buffer; the call leaves the state as it is
 abbrev pub paged : ℕ → Session → Turn
-paged n s = saying (said.Paged n) (running s.state s.scan)
+paged n s = saying (said.Paged n) (running s.state s.beacons)
 
 -- each line of the format, and the call that it makes
-unfoldable pub made : Call → Session → Turn
-made (Node l) s = nothing (set_up (begun l) s)
-made (Entry e) s = nothing (set_up (with_table (pushed s.state.table e) s.state) s)
-made (Failure p) s = nothing (set_up (with_pairs (with_pair p (pairs s.state)) s.state) s)
-made (Discovery r) s = told (node.answer s.state (node.discovery r)) None s.scan
-made (Join r) s = told (node.answer s.state (node.join r)) None s.scan
-made (Send destination secure) s = told (node.answer s.state (node.send destination secure)) None s.scan
-made Poll s = told (node.answer s.state node.poll) None s.scan
-made Receive s = told (node.answer s.state node.receive) None s.scan
-made Negotiate s = told (node.answer s.state (node.timeout TimeoutFor.Negotiation)) None s.scan
-made Keepalive s = told (node.answer s.state (node.timeout TimeoutFor.Keepalive)) None s.scan
-made (Scan n) s = scan_after n (unheard n) s
-made (Beacon d) s = scan_after (s.missing - 1) (with_beacon s.missing d s.scan) s
-made ScanFailed s = scan_told (Err mac_error) s
-made (Association o) s = told (node.answer s.state (node.association o)) None s.scan
-made (Transmission ok) s = told (node.answer s.state (node.transmission ok)) None s.scan
-made (Reception o) s = told (node.answer s.state (node.reception o)) None s.scan
-made (Tick ms) s = told (node.answer s.state (node.elapsed ms)) None s.scan
-made TakeLeave s = told (node.answer s.state node.take_leave) None s.scan
-made TakeStatus s = told (node.answer s.state node.take_status) None s.scan
-made (Choose n router permit) s = chosen n.0 router permit s
-made PrintState s = shown s
-made (Page n) s = paged n s
-made Refresh s = told (node.refresh s.state) None s.scan
+unfoldable pub call_made : TraceCall → Session → Turn
+call_made (Node l) s = nothing (set_up (node_begun l) s)
+call_made (Entry e) s = nothing (set_up (with_table (pushed s.state.table e) s.state) s)
+call_made (Failure p) s = nothing (set_up (with_pairs (with_pair p (pairs s.state)) s.state) s)
+call_made (Discovery r) s = told (node.answer s.state (node.discovery r)) None s.beacons
+call_made (Join r) s = told (node.answer s.state (node.join r)) None s.beacons
+call_made (Send destination secure) s = told (node.answer s.state (node.send destination secure)) None s.beacons
+call_made Poll s = told (node.answer s.state node.poll) None s.beacons
+call_made Receive s = told (node.answer s.state node.receive) None s.beacons
+call_made Negotiate s = told (node.answer s.state (node.timeout TimeoutFor.Negotiation)) None s.beacons
+call_made Keepalive s = told (node.answer s.state (node.timeout TimeoutFor.Keepalive)) None s.beacons
+call_made (Scan n) s = scan_after n (unheard n) s
+call_made (Beacon d) s = scan_after (s.missing - 1) (with_beacon s.missing d s.beacons) s
+call_made ScanFailed s = scan_told (Err mac_error) s
+call_made (Association o) s = told (node.answer s.state (node.association o)) None s.beacons
+call_made (Transmission ok) s = told (node.answer s.state (node.transmission ok)) None s.beacons
+call_made (Reception o) s = told (node.answer s.state (node.reception o)) None s.beacons
+call_made (Tick ms) s = told (node.answer s.state (node.elapsed ms)) None s.beacons
+call_made TakeLeave s = told (node.answer s.state node.take_leave) None s.beacons
+call_made TakeStatus s = told (node.answer s.state node.take_status) None s.beacons
+call_made (Choose n router permit) s = choice_told n.0 router permit s
+call_made PrintState s = state_told s
+call_made (Page n) s = paged n s
+call_made Refresh s = told (node.refresh s.state) None s.beacons
 
 -- Which lines may come
 
@@ -192,12 +192,12 @@ has_node NoNode = false
 has_node SettingUp = true
 has_node Running = true
 
-abbrev pub is_beacon : Call → Bool
+abbrev pub is_beacon : TraceCall → Bool
 is_beacon (Beacon d) = true
 is_beacon _ = false
 
 -- a `node` line always; `e` and `f` from it up to the first call, with so many entries and pairs before them; calls after it
-abbrev pub may_come : Call → Session → Bool
+abbrev pub may_come : TraceCall → Session → Bool
 may_come (Node l) s = true
 may_come (Entry e) s = has_room s.stage s.state.table.count
 may_come (Failure p) s = has_room s.stage (pairs s.state).count
@@ -205,10 +205,10 @@ may_come (Beacon d) s = false
 may_come _ s = has_node s.stage
 
 -- where a beacon is due nothing else may come
-abbrev pub fits : Call → Session → Bool
-fits c s = cond (eqb s.missing 0) (may_come c s) (is_beacon c)
+abbrev pub is_in_place : TraceCall → Session → Bool
+is_in_place c s = cond (eqb s.missing 0) (may_come c s) (is_beacon c)
 
 -- a line taken: the next session, and what the line says. Without a call it is not of the format
-unfoldable pub taken : Option Call → Session → Turn
-taken None s = bad s
-taken (Some c) s = cond (fits c s) (made c s) (bad s)
+unfoldable pub turn_taken : Option TraceCall → Session → Turn
+turn_taken None s = saying_bad s
+turn_taken (Some c) s = cond (is_in_place c s) (call_made c s) (saying_bad s)

@@ -4,7 +4,7 @@
 ghost use Rattle.std.specs.Prelude.{◌≡◌};
 ghost use Rattle.nib.specs.Neighbors.{pushed};
 ghost use Rattle.node.specs.Looks.{with_table};
-ghost use Rattle.trace_calls.specs.TraceCalls.{no_node, begun, with_pair, with_pairs, unheard, with_beacon, before, set_up, running, saying, nothing, told, scan_told, scan_after, chosen, made, has_room, has_node, may_come, fits, taken};
+ghost use Rattle.trace_calls.specs.TraceCalls.{no_node, node_begun, with_pair, with_pairs, unheard, with_beacon, before, set_up, running, saying, nothing, told, scan_told, scan_after, choice_told, call_made, has_room, has_node, may_come, is_in_place, turn_taken};
 
 use candidates::CandidateList;
 use discovery::NlmeNetworkDiscoveryConfirm;
@@ -19,7 +19,7 @@ use nib::{
 use node::{Answer, State};
 use operation::{Note, Refusal, Step};
 use supervision::{TransmitFailure, TransmitFailures};
-use trace_input::{Call, NodeFields};
+use trace_input::{NodeFields, TraceCall};
 
 // Which lines may come next where no beacon is due: a `node` line alone; further lines of the state, or calls; calls.
 #[derive(Clone, Copy)]
@@ -39,10 +39,10 @@ pub struct Session {
     pub state: State,
     // which lines may come
     pub stage: Stage,
-    // the beacons of a scan that are still to come. No case of `Stage` holds them with `scan`, since the beacons of the last scan stay in the session
+    // the beacons of a scan that are still to come. No case of `Stage` holds them with `beacons`, since the beacons of the last scan stay in the session
     pub missing: u32,
     // the beacons of the last scan
-    pub scan: PanDescriptorList,
+    pub beacons: PanDescriptorList,
 }
 
 // What a node answers to a call.
@@ -112,9 +112,9 @@ fn no_node() -> NodeFields
 }
 
 // A node with no neighbours and no operation under way.
-#[tactic(auto, unfolding(crate::specs::TraceCalls::begun, node::specs::Beginning::new_state, nlme::specs::Nlme::new_nlme))]
-fn begun(node: NodeFields) -> State
-    ensures { result ≡ begun node }
+#[tactic(auto, unfolding(crate::specs::TraceCalls::node_begun, node::specs::Beginning::new_state, nlme::specs::Nlme::new_nlme))]
+fn node_begun(node: NodeFields) -> State
+    ensures { result ≡ node_begun node }
 {
     let mut state = State::new(node.nib, node.nwk_seq);
     state.control.nlme.pending_timeout_request = node.pending_timeout_request;
@@ -192,10 +192,10 @@ impl Session {
         ensures { result ≡ before }
     {
         Session {
-            state: begun(no_node()),
+            state: node_begun(no_node()),
             stage: Stage::NoNode,
             missing: 0,
-            scan: unheard(0),
+            beacons: unheard(0),
         }
     }
 
@@ -210,7 +210,7 @@ impl Session {
 
     // After a call, with the state that it leaves.
     fn running(self, state: State) -> Session
-        ensures { result ≡ running state self.scan }
+        ensures { result ≡ running state self.beacons }
     {
         Session {
             state,
@@ -235,15 +235,15 @@ impl Session {
 
     // A call's answer, with the networks that a discovery found.
     fn told(self, answer: Answer, networks: Option<NlmeNetworkDiscoveryConfirm>) -> Turn
-        ensures { result ≡ told answer networks self.scan }
+        ensures { result ≡ told answer networks self.beacons }
     {
-        let answered = Answered {
+        let with_networks = Answered {
             reset: answer.reset,
             note: answer.note,
             step: answer.step,
             networks,
         };
-        self.running(answer.state).saying(Said::Told(answered))
+        self.running(answer.state).saying(Said::Told(with_networks))
     }
 
     // The outcome of a scan reaches the node.
@@ -255,65 +255,69 @@ impl Session {
     }
 
     // After `scan` or `b`, with so many beacons still to come: the outcome reaches the node with the last of them.
-    fn scan_after(self, missing: u32, scan: PanDescriptorList) -> Turn
-        ensures { result ≡ scan_after missing scan self }
+    fn scan_after(self, missing: u32, beacons: PanDescriptorList) -> Turn
+        ensures { result ≡ scan_after missing beacons self }
     {
         if missing == 0 {
-            return self.scan_told(Ok(scan));
+            return self.scan_told(Ok(beacons));
         }
         let session = Session {
             state: self.state,
             stage: Stage::Running,
             missing,
-            scan,
+            beacons,
         };
         session.saying(Said::Nothing)
     }
 
     // The choice of candidates on the present table.
-    fn chosen(self, network: ExtendedPanId, router: bool, permit: bool) -> Turn
-        ensures { result ≡ chosen network.0 router permit self }
+    fn choice_told(self, network: ExtendedPanId, router: bool, permit: bool) -> Turn
+        ensures { result ≡ choice_told network.0 router permit self }
     {
         let choice = self.state.select_candidates(network, router, permit);
         self.running(self.state).saying(Said::Chosen(choice))
     }
 
     // The call that a line makes.
-    #[tactic(auto, unfolding(crate::specs::TraceCalls::made))]
-    fn make(self, call: Call) -> Turn
-        ensures { result ≡ made call self }
+    #[tactic(auto, unfolding(crate::specs::TraceCalls::call_made))]
+    fn make(self, call: TraceCall) -> Turn
+        ensures { result ≡ call_made call self }
     {
         let state = self.state;
         match call {
-            Call::Node(node) => self.set_up(begun(node)),
-            Call::Entry(e) => self.set_up(with_entry(state, e)),
-            Call::Failure(p) => self.set_up(with_failure(state, p)),
-            Call::Discovery(range) => self.told(state.start_discovery(range), None),
-            Call::Join(request) => self.told(state.join(request), None),
-            Call::Send(destination, secure) => self.told(
-                state.send_data(destination, secure),
-                None,
-            ),
-            Call::Poll => self.told(state.poll(), None),
-            Call::Receive => self.told(state.receive(), None),
-            Call::Negotiate => self.told(state.negotiate_end_device_timeout(), None),
-            Call::Keepalive => self.told(state.send_timeout_request_keepalive(), None),
-            Call::Scan(n) => self.scan_after(n, unheard(n as usize)),
-            Call::Beacon(d) => self.scan_after(
+            TraceCall::Node(node) => self.set_up(node_begun(node)),
+            TraceCall::Entry(e) => self.set_up(with_entry(state, e)),
+            TraceCall::Failure(p) => self.set_up(with_failure(state, p)),
+            TraceCall::Discovery(range) => self.told(state.start_discovery(range), None),
+            TraceCall::Join(request) => self.told(state.join(request), None),
+            TraceCall::Send {
+                destination,
+                secure,
+            } => self.told(state.send_data(destination, secure), None),
+            TraceCall::Poll => self.told(state.poll(), None),
+            TraceCall::Receive => self.told(state.receive(), None),
+            TraceCall::Negotiate => self.told(state.negotiate_end_device_timeout(), None),
+            TraceCall::Keepalive => self.told(state.send_timeout_request_keepalive(), None),
+            TraceCall::Scan(n) => self.scan_after(n, unheard(n as usize)),
+            TraceCall::Beacon(d) => self.scan_after(
                 self.missing.saturating_sub(1),
-                with_beacon(self.scan, self.missing, d),
+                with_beacon(self.beacons, self.missing, d),
             ),
-            Call::ScanFailed => self.scan_told(Err(MacError)),
-            Call::Association(outcome) => self.told(state.association_over(outcome), None),
-            Call::Transmission(sent) => self.told(state.transmission_over(sent), None),
-            Call::Reception(outcome) => self.told(state.reception_over(outcome), None),
-            Call::Tick(ms) => self.told(state.tick_parent_timeout(ms), None),
-            Call::TakeLeave => self.told(state.take_leave_indication(), None),
-            Call::TakeStatus => self.told(state.take_nwk_status_indication(), None),
-            Call::Refresh => self.told(state.refresh_parent_timeout(), None),
-            Call::Choose(network, router, permit) => self.chosen(network, router, permit),
-            Call::PrintState => self.running(state).saying(Said::Shown),
-            Call::Page(length) => self.running(state).saying(Said::Paged(length)),
+            TraceCall::ScanFailed => self.scan_told(Err(MacError)),
+            TraceCall::Association(outcome) => self.told(state.association_over(outcome), None),
+            TraceCall::Transmission(sent) => self.told(state.transmission_over(sent), None),
+            TraceCall::Reception(outcome) => self.told(state.reception_over(outcome), None),
+            TraceCall::Tick(ms) => self.told(state.tick_parent_timeout(ms), None),
+            TraceCall::TakeLeave => self.told(state.take_leave_indication(), None),
+            TraceCall::TakeStatus => self.told(state.take_nwk_status_indication(), None),
+            TraceCall::Refresh => self.told(state.refresh_parent_timeout(), None),
+            TraceCall::Choose {
+                extended_pan_id,
+                join_as_router,
+                require_permit_joining,
+            } => self.choice_told(extended_pan_id, join_as_router, require_permit_joining),
+            TraceCall::PrintState => self.running(state).saying(Said::Shown),
+            TraceCall::Page(length) => self.running(state).saying(Said::Paged(length)),
         }
     }
 }
@@ -342,38 +346,38 @@ impl Stage {
 
 impl Session {
     // Whether a line may come where no beacon is due.
-    fn may_come(self, call: Call) -> bool
+    fn may_come(self, call: TraceCall) -> bool
         ensures { result ≡ may_come call self }
     {
         match call {
-            Call::Node(_) => true,
-            Call::Entry(_) => self.stage.has_room(self.state.table.count),
-            Call::Failure(_) => self
+            TraceCall::Node(_) => true,
+            TraceCall::Entry(_) => self.stage.has_room(self.state.table.count),
+            TraceCall::Failure(_) => self
                 .stage
                 .has_room(self.state.control.nlme.transmit_failures.count),
-            Call::Beacon(_) => false,
+            TraceCall::Beacon(_) => false,
             _ => self.stage.has_node(),
         }
     }
 
     // Where a beacon is due nothing else may come.
-    fn fits(self, call: Call) -> bool
-        ensures { result ≡ fits call self }
+    fn is_in_place(self, call: TraceCall) -> bool
+        ensures { result ≡ is_in_place call self }
     {
         if self.missing == 0 {
             self.may_come(call)
         } else {
-            matches!(call, Call::Beacon(_))
+            matches!(call, TraceCall::Beacon(_))
         }
     }
 
     // A line taken. `None` is a line that is not of the format.
-    #[tactic(auto, unfolding(crate::specs::TraceCalls::taken))]
-    pub fn take(self, call: Option<Call>) -> Turn
-        ensures { result ≡ taken call self }
+    #[tactic(auto, unfolding(crate::specs::TraceCalls::turn_taken))]
+    pub fn take(self, call: Option<TraceCall>) -> Turn
+        ensures { result ≡ turn_taken call self }
     {
         match call {
-            Some(call) if self.fits(call) => self.make(call),
+            Some(call) if self.is_in_place(call) => self.make(call),
             _ => self.saying(Said::Bad),
         }
     }

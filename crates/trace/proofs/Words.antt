@@ -56,7 +56,7 @@ words_placed = refl
 
 -- the letter of a field, as the format has it: a word, 4 hexadecimal digits, 16, 16 or a dash, a flag, a decimal number of 8, 16 or 32 bits
 abbrev letter_of : Field → ℕ
-letter_of (Field.Word w) = code "w"
+letter_of (Field.Named w) = code "w"
 letter_of (Field.Short n) = code "4"
 letter_of (Field.Long n) = code "G"
 letter_of (Field.OrDash n) = code "o"
