@@ -3,6 +3,7 @@
 usage: .ci/edits.py            whether each `old:` text stands once in its file, and each pair changes something; nothing is checked
 """
 
+import concurrent.futures
 import contextlib
 import glob
 import os
@@ -80,22 +81,9 @@ class Edit:
             made[file] = made[file].replace(old, new)
         return made
 
-    @contextlib.contextmanager
     def room(self, kept):
-        """A repository of its own in which the edit is carried out. Libraries come with it as they were built, and of the crates `kept` what `rt check` left in
-        out/, so that what the edit doesn't touch is not proved again."""
-        made = self.texts()
-        with tempfile.TemporaryDirectory(prefix="edited-") as room:
-            shutil.copy(os.path.join(TOP, "crates.txt"), room)
-            for name in os.listdir(os.path.join(TOP, "crates")):
-                for part in ("src", "specs", "proofs", "out/rlib", *["out/incremental"] * (name in kept)):
-                    source = os.path.join(TOP, "crates", name, part)
-                    if os.path.isdir(source):
-                        shutil.copytree(source, os.path.join(room, "crates", name, part), copy_function=link if part.startswith("out") else shutil.copyfile)
-            for file, text in made.items():
-                with open(os.path.join(room, file), "w", encoding="utf-8") as it:
-                    it.write(text)
-            yield room
+        """A room in which the edit is carried out."""
+        return room(self.texts(), below(), kept)
 
     def keep(self, said):
         """Leaves what the check said in the crate's out/, by the kind and the name of the edit."""
@@ -108,6 +96,23 @@ class Edit:
         """What `rt check` says of the crate in such a room."""
         with self.room(kept) as room:
             return checked(os.path.join(room, "crates", self.crate), *flags)
+
+
+@contextlib.contextmanager
+def room(made, libraries, kept):
+    """A repository of its own, with the texts `made` in place of those of the same files. The libraries come with it as they were built, and of the crates
+    `kept` what a check left in out/, so that what the texts don't touch is not proved again."""
+    with tempfile.TemporaryDirectory(prefix="edited-") as at:
+        shutil.copy(os.path.join(TOP, "crates.txt"), at)
+        for name in os.listdir(os.path.join(TOP, "crates")):
+            for part in ("src", "specs", "proofs", *["out/rlib"] * (name in libraries), *["out/incremental"] * (name in kept)):
+                source = os.path.join(TOP, "crates", name, part)
+                if os.path.isdir(source):
+                    shutil.copytree(source, os.path.join(at, "crates", name, part), copy_function=link if part.startswith("out") else shutil.copyfile)
+        for file, text in made.items():
+            with open(os.path.join(at, file), "w", encoding="utf-8") as it:
+                it.write(text)
+        yield at
 
 
 def link(source, to):
@@ -130,12 +135,48 @@ def is_proved(said):
     return bool(re.search(r"^logic=proved", said, re.M))
 
 
-def prove(crates):
-    """What is not proved, of these crates or of all: what edits are tried over. Of all, those that don't rest on one another are proved side by side."""
-    if crates:
-        return [it for it in crates if not is_proved(checked(os.path.join(TOP, "crates", it)))]
-    ran = subprocess.run(["rt", "all", "check", "--jobs", str(beside())], cwd=TOP, stdin=subprocess.DEVNULL, stdout=subprocess.PIPE, stderr=subprocess.STDOUT, encoding="utf-8", errors="replace")
-    return [ran.stdout[-2000:]] if ran.returncode else []
+def below():
+    """The crates of crates.txt, lowest first, and those of the repository that each is built on."""
+    with open(os.path.join(TOP, "crates.txt"), encoding="utf-8") as it:
+        named = {name: rest.split() for name, rest in re.findall(r"^(\w+):(.*)", it.read(), re.M)}
+
+    def all_of(name):
+        return {it for direct in named[name] if direct in named for it in [direct, *all_of(direct)]}
+
+    return dict(sorted(((name, all_of(name)) for name in named), key=lambda it: len(it[1])))
+
+
+def proved(crate, libraries):
+    """Whether a crate is proved as it stands, over libraries as they were built. It is checked in a room, since a check keeps others out of the crates below;
+    what it has made and kept comes back to the crate's out/."""
+    with room({}, libraries, [crate]) as at:
+        inside, to = (os.path.join(it, "crates", crate, "out") for it in (at, TOP))
+        is_program = os.path.isfile(os.path.join(TOP, "crates", crate, "src", "main.rt"))
+        ran = subprocess.run(["rt", "check" if is_program else "lib", "--jobs", "1"], cwd=os.path.dirname(inside), stdin=subprocess.DEVNULL, stdout=subprocess.PIPE, stderr=subprocess.STDOUT, check=False)
+        if ran.returncode:
+            print(ran.stdout[-2000:].decode(errors="replace"), flush=True)
+            return False
+        for part in ("rlib", "incremental"):
+            if os.path.isdir(os.path.join(inside, part)):
+                shutil.rmtree(os.path.join(to, part), ignore_errors=True)
+                shutil.move(os.path.join(inside, part), os.path.join(to, part))
+    return True
+
+
+def prove(names):
+    """Proves these crates, or all, with those below them, side by side: what edits are tried over. Returns those that are not proved."""
+    libraries, tasks = below(), {}
+    wanted = {it for name in names or libraries for it in [name, *libraries[name]]}
+
+    def one(crate):
+        # (those below were handed in before it, so some task always goes on)
+        return all(tasks[it].result() for it in libraries[crate]) and proved(crate, libraries[crate])
+
+    with concurrent.futures.ThreadPoolExecutor(beside()) as pool:
+        for crate in libraries:
+            if crate in wanted:
+                tasks[crate] = pool.submit(one, crate)
+        return [it for it, task in tasks.items() if not task.result()]
 
 
 def of(kind, crate="*"):

@@ -18,19 +18,8 @@ use Rattle.nib.proofs.Tables.{push-of}
 use Rattle.discovery.specs.declared.mlme.Address.{Address}
 use Rattle.discovery.specs.declared.mlme.Address.TheVariants.{Short, Extended}
 use Rattle.discovery.specs.declared.mlme.PanDescriptor.{PanDescriptor}
+use Rattle.discovery.specs.Mlme.{blank_beacon}
 use Rattle.discovery.specs.Discovery.{entry_of, neighbor_by, neighbor_of, present, neighbors_of, short_addressed}
-
--- what a read past the end of the descriptors gives
-abbrev pub no_descriptor : PanDescriptor
-no_descriptor =
-    record {
-      channel = 0;
-      coord_pan_id = record { 0 = 0 };
-      coord_address = Short (record { 0 = 0 }) (record { 0 = 0 });
-      superframe_spec = record { beacon_order = 0; superframe_order = 0; association_permit = false };
-      link_quality = 0;
-      zigbee_beacon = record { stack_profile = record { 0 = 0 }; extended_pan_id = record { 0 = 0 }; update_id = 0 };
-    }
 
 abbrev entries_from : PanDescriptor → List NwkNeighbor
 entries_from d = present (neighbor_of d)

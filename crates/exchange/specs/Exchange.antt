@@ -19,7 +19,7 @@ use Rattle.operation.specs.Operation.{with_nlme, with_polls_left, telling, askin
 use Rattle.operation.specs.declared.TimeoutFor.{TimeoutFor}
 use Rattle.operation.specs.declared.TransmissionFor.{TransmissionFor}
 use Rattle.operation.specs.declared.Phase.{Phase}
-use Rattle.operation.specs.declared.Purpose.{Purpose}
+use Rattle.operation.specs.declared.ReceptionFor.{ReceptionFor}
 use Rattle.operation.specs.declared.Control.{Control}
 use Rattle.operation.specs.declared.RadioRequest.{RadioRequest}
 use Rattle.operation.specs.declared.Step.{Step}
@@ -56,17 +56,17 @@ data_sent false parent c = send_over (failed_via_parent parent c.nlme) c
 -- one poll of the parent (Zigbee 3.6.6), or one passive receive
 unfoldable pub poll_started : Option NwkNeighbor → Control → Decision
 poll_started None c = ending (Step.Polled PollAnswer.PollNotJoined) c
-poll_started (Some p) c = polled Purpose.SinglePoll p c
+poll_started (Some p) c = polled ReceptionFor.SinglePoll p c
 
 unfoldable pub receive_started : Control → Decision
-receive_started c = asking (Phase.Reception Purpose.SingleReceive) RadioRequest.Receive c
+receive_started c = asking (Phase.Reception ReceptionFor.SingleReceive) RadioRequest.Receive c
 
 -- nothing buffered is no error of a poll; a receive that brings nothing is a radio error (`poll_parent` and `receive_nwk_frame` of the source)
-abbrev pub no_data : Purpose → PollAnswer
-no_data Purpose.RejoinResponse = PollAnswer.PollNothing
-no_data Purpose.SinglePoll = PollAnswer.PollNothing
-no_data Purpose.SingleReceive = PollAnswer.PollMacError
-no_data (Purpose.TimeoutResponse u) = PollAnswer.PollNothing
+abbrev pub no_data : ReceptionFor → PollAnswer
+no_data ReceptionFor.RejoinResponse = PollAnswer.PollNothing
+no_data ReceptionFor.SinglePoll = PollAnswer.PollNothing
+no_data ReceptionFor.SingleReceive = PollAnswer.PollMacError
+no_data (ReceptionFor.TimeoutResponse u) = PollAnswer.PollNothing
 
 unfoldable pub poll_over : PollAnswer → Control → Decision
 poll_over a c = ending (Step.Polled a) c
@@ -96,7 +96,7 @@ timeout_started u (Some p) c = requesting u (timeout_requested p (no_timeout_res
 unfoldable pub timeout_answered_by : Option EndDeviceTimeoutResponse → TimeoutFor → Option NwkNeighbor → Control → Decision
 timeout_answered_by (Some r) u parent c =
     cond (eqb r.status 0) (timeout_accepted u (no_timeout_response c)) (timeout_failed NegotiationAnswer.NotNegotiated u parent (no_timeout_response c))
-timeout_answered_by None u parent c = poll_on (Purpose.TimeoutResponse u) parent (timeout_failed NegotiationAnswer.NotNegotiated u parent) c
+timeout_answered_by None u parent c = poll_on (ReceptionFor.TimeoutResponse u) parent (timeout_failed NegotiationAnswer.NotNegotiated u parent) c
 
 abbrev pub timeout_goes_on : TimeoutFor → Option NwkNeighbor → Control → Decision
 timeout_goes_on u parent c = timeout_answered_by c.nlme.signals.timeout_response u parent c

@@ -13,7 +13,7 @@ use management::frame::{DataHeader, SentFrame};
 use management::{PollAnswer, SendAnswer, frame};
 use nib::{NwkNeighbor, ShortAddress};
 use nlme::{Nlme, Transmission, ViaParent};
-use operation::{Control, Decision, Phase, Purpose, RadioRequest, Step, TransmissionFor};
+use operation::{Control, Decision, Phase, RadioRequest, ReceptionFor, Step, TransmissionFor};
 
 // The next data frame, by way of a parent.
 fn data_frame(
@@ -93,7 +93,7 @@ pub fn start_poll(control: Control, parent: Option<NwkNeighbor>) -> Decision
 {
     match parent {
         None => end_poll(control, PollAnswer::PollNotJoined),
-        Some(parent) => operation::poll_parent(control, Purpose::SinglePoll, parent),
+        Some(parent) => operation::poll_parent(control, ReceptionFor::SinglePoll, parent),
     }
 }
 
@@ -104,20 +104,20 @@ pub fn start_receive(control: Control) -> Decision
 {
     operation::asking(
         control,
-        Phase::Reception(Purpose::SingleReceive),
+        Phase::Reception(ReceptionFor::SingleReceive),
         RadioRequest::Receive,
     )
 }
 
 // What a poll or a receive that brings nothing answers.
-pub fn no_data(purpose: Purpose) -> PollAnswer
+pub fn no_data(purpose: ReceptionFor) -> PollAnswer
     ensures { result ≡ no_data purpose }
 {
     match purpose {
-        Purpose::SingleReceive => PollAnswer::PollMacError,
-        Purpose::RejoinResponse | Purpose::SinglePoll | Purpose::TimeoutResponse(_) => {
-            PollAnswer::PollNothing
-        }
+        ReceptionFor::SingleReceive => PollAnswer::PollMacError,
+        ReceptionFor::RejoinResponse
+        | ReceptionFor::SinglePoll
+        | ReceptionFor::TimeoutResponse(_) => { PollAnswer::PollNothing }
     }
 }
 

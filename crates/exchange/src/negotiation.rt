@@ -7,7 +7,7 @@ ghost use Rattle.exchange.specs.Exchange.{timeout_failed, timeout_accepted, no_t
 use management::{KeepaliveAnswer, NegotiationAnswer};
 use nib::NwkNeighbor;
 use nlme::Nlme;
-use operation::{Control, Decision, Phase, Purpose, Step, TimeoutFor, TransmissionFor};
+use operation::{Control, Decision, Phase, ReceptionFor, Step, TimeoutFor, TransmissionFor};
 
 // The polls that follow a send that succeeded.
 pub const TIMEOUT_RESPONSE_POLL_RETRIES: u8 = 3;
@@ -26,7 +26,7 @@ fn keepalive_over(control: Control, nlme: Nlme, answer: KeepaliveAnswer) -> Deci
 // `control`, `purpose` and `parent` go together here and in the functions below, and no struct: they come from the state, the phase and the table, and are read
 // one by one at once, so a struct of them would be made for one call.
 #[tactic(auto, unfolding(crate::specs::Exchange::timeout_failed))]
-fn timeout_failed(
+fn fail_timeout(
     control: Control,
     purpose: TimeoutFor,
     answer: NegotiationAnswer,
@@ -45,7 +45,7 @@ fn timeout_failed(
 
 // The parent answered with status 0.
 #[tactic(auto, unfolding(crate::specs::Exchange::timeout_accepted))]
-fn timeout_accepted(control: Control, purpose: TimeoutFor) -> Decision
+fn accept_timeout(control: Control, purpose: TimeoutFor) -> Decision
     ensures { result ≡ timeout_accepted purpose control }
 {
     match purpose {
@@ -64,7 +64,7 @@ fn timeout_accepted(control: Control, purpose: TimeoutFor) -> Decision
 
 // No timeout response is left in its slot.
 // One line, as `without_response` of `join` is over another type: one function for both would be longer.
-fn no_timeout_response(mut control: Control) -> Control
+fn without_timeout_response(mut control: Control) -> Control
     ensures { result ≡ no_timeout_response control }
 {
     control.nlme.signals.timeout_response = None;
@@ -94,9 +94,9 @@ pub fn start_timeout_request(
 ) -> Decision
     ensures { result ≡ timeout_started purpose parent control }
 {
-    let ready = no_timeout_response(control);
+    let ready = without_timeout_response(control);
     match parent {
-        None => timeout_failed(
+        None => fail_timeout(
             ready,
             purpose,
             NegotiationAnswer::NegotiationNotJoined,
@@ -108,11 +108,13 @@ pub fn start_timeout_request(
 
 // Without a timeout response the polls go on while any is left.
 #[tactic(auto, using(operation::proofs::Polls::polls_on))]
-fn timeout_missing(control: Control, purpose: TimeoutFor, parent: Option<NwkNeighbor>) -> Decision
-    ensures { result ≡ poll_on (Purpose.TimeoutResponse purpose) parent (timeout_failed NegotiationAnswer.NotNegotiated purpose parent) control }
+fn poll_again(control: Control, purpose: TimeoutFor, parent: Option<NwkNeighbor>) -> Decision
+    ensures { result ≡ poll_on (ReceptionFor.TimeoutResponse purpose) parent (timeout_failed NegotiationAnswer.NotNegotiated purpose parent) control }
 {
-    let over = |control| timeout_failed(control, purpose, NegotiationAnswer::NotNegotiated, parent);
-    operation::next_poll(control, Purpose::TimeoutResponse(purpose), parent).unwrap_or_else(over)
+    let over = |control| fail_timeout(control, purpose, NegotiationAnswer::NotNegotiated, parent);
+    operation::next_poll(control, ReceptionFor::TimeoutResponse(purpose), parent).unwrap_or_else(
+        over,
+    )
 }
 
 // A timeout response ends the polls, and its status decides.
@@ -124,11 +126,11 @@ fn decide_timeout_response(
 ) -> Decision
     ensures { result ≡ cond (eqb status 0) (timeout_accepted purpose (no_timeout_response control)) (timeout_failed NegotiationAnswer.NotNegotiated purpose parent (no_timeout_response control)) }
 {
-    let taken = no_timeout_response(control);
+    let taken = without_timeout_response(control);
     if status == 0 {
-        return timeout_accepted(taken, purpose);
+        return accept_timeout(taken, purpose);
     }
-    timeout_failed(taken, purpose, NegotiationAnswer::NotNegotiated, parent)
+    fail_timeout(taken, purpose, NegotiationAnswer::NotNegotiated, parent)
 }
 
 // The polls go on, or are over.
@@ -141,7 +143,7 @@ pub fn timeout_goes_on(
     ensures { result ≡ timeout_goes_on purpose parent control }
 {
     match control.nlme.signals.timeout_response {
-        None => timeout_missing(control, purpose, parent),
+        None => poll_again(control, purpose, parent),
         Some(response) => decide_timeout_response(control, purpose, response.status, parent),
     }
 }
@@ -159,7 +161,7 @@ pub fn decide_timeout_request(
     if sent {
         return timeout_goes_on(control, purpose, parent);
     }
-    timeout_failed(
+    fail_timeout(
         control,
         purpose,
         NegotiationAnswer::NegotiationMacError,

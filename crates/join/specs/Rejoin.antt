@@ -17,7 +17,7 @@ use Rattle.operation.specs.Operation.{with_nlme, with_operation, awaiting, with_
 use Rattle.operation.specs.declared.ScanFor.{ScanFor}
 use Rattle.operation.specs.declared.TransmissionFor.{TransmissionFor}
 use Rattle.operation.specs.declared.Phase.{Phase}
-use Rattle.operation.specs.declared.Purpose.{Purpose}
+use Rattle.operation.specs.declared.ReceptionFor.{ReceptionFor}
 use Rattle.operation.specs.declared.Operation.{Operation}
 use Rattle.operation.specs.declared.Control.{Control}
 use Rattle.operation.specs.declared.RadioRequest.{RadioRequest}
@@ -127,7 +127,7 @@ responded r next c = cond (eqb r.status 0) (rejoined r c) (try_failed (failed_st
 -- "at most 20 polls, ended by the first rejoin response" (Zigbee 3.4.7.1); "no response gives MacError"
 unfoldable pub answered_by : Option RejoinResponse → Option NwkNeighbor → Option NwkNeighbor → Control → Decision
 answered_by (Some r) parent next c = responded r next (with_nlme (no_response c.nlme) c)
-answered_by None parent next c = poll_on Purpose.RejoinResponse parent (try_failed NlmeJoinStatus.MacError next) c
+answered_by None parent next c = poll_on ReceptionFor.RejoinResponse parent (try_failed NlmeJoinStatus.MacError next) c
 
 abbrev pub try_goes_on : Option NwkNeighbor → Option NwkNeighbor → Control → Decision
 try_goes_on parent next c = answered_by c.nlme.signals.rejoin_response parent next c

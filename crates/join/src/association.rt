@@ -37,7 +37,7 @@ fn request_association(control: Control, clear: bool, entry: NwkNeighbor) -> Dec
     ensures { result ≡ clearing clear (associating entry control) }
 {
     let step = Step::Ask(associate_request(control, entry));
-    crate::moving(control, clear, Move::TakeNext, step, Phase::Association)
+    crate::moving(control, Phase::Association, clear, Move::TakeNext, step)
 }
 
 // The start of a join whose candidates are chosen.
@@ -93,13 +93,13 @@ fn joined_confirm(response: AssociationResponse, entry: NwkNeighbor) -> NlmeJoin
 
 // The candidate being tried becomes the parent.
 #[tactic(auto, unfolding(crate::specs::Join::joined_by))]
-fn joined_by(control: Control, response: AssociationResponse, entry: NwkNeighbor) -> Decision
+fn finish_join(control: Control, response: AssociationResponse, entry: NwkNeighbor) -> Decision
     ensures { result ≡ joined_by response entry control }
 {
     let step = Step::Joined(joined_confirm(response, entry));
     let joined = joined_control(control, response, entry);
     let clear = false;
-    crate::moving(joined, clear, Move::JoinTried, step, Phase::Idle)
+    crate::moving(joined, Phase::Idle, clear, Move::JoinTried, step)
 }
 
 // Whether a candidate that has failed with a status is no longer a potential parent.
@@ -114,7 +114,7 @@ fn clears(status: NlmeJoinStatus) -> bool
 
 // A candidate has failed: the next one is tried, or its status stands.
 #[tactic(auto, unfolding(crate::specs::Join::candidate_failed))]
-fn candidate_failed(control: Control, status: NlmeJoinStatus, next: Option<NwkNeighbor>) -> Decision
+fn fail_candidate(control: Control, status: NlmeJoinStatus, next: Option<NwkNeighbor>) -> Decision
     ensures { result ≡ candidate_failed status next control }
 {
     let clear = clears(status);
@@ -135,8 +135,8 @@ fn succeeded(
     ensures { result ≡ succeeded response tried next control }
 {
     match tried {
-        None => candidate_failed(control, NlmeJoinStatus::MacError, next),
-        Some(entry) => joined_by(control, response, entry),
+        None => fail_candidate(control, NlmeJoinStatus::MacError, next),
+        Some(entry) => finish_join(control, response, entry),
     }
 }
 
@@ -152,7 +152,7 @@ pub fn decide_association(
 {
     match outcome {
         Ok(response) if response.status == 0 => succeeded(control, response, tried, next),
-        Ok(response) => candidate_failed(control, crate::failed_status(response.status), next),
-        Err(MacError) => candidate_failed(control, NlmeJoinStatus::MacError, next),
+        Ok(response) => fail_candidate(control, crate::failed_status(response.status), next),
+        Err(MacError) => fail_candidate(control, NlmeJoinStatus::MacError, next),
     }
 }

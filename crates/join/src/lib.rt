@@ -25,7 +25,7 @@ fn join_failure(status: NlmeJoinStatus) -> NlmeJoinConfirm
 }
 
 // A decision that does something with the candidates, and what is awaited then.
-fn moving(control: Control, clear: bool, candidate: Move, step: Step, phase: Phase) -> Decision
+fn moving(control: Control, phase: Phase, clear: bool, candidate: Move, step: Step) -> Decision
     ensures { result ≡ clearing clear (decided candidate None step (in_phase phase control)) }
 {
     let control = operation::in_phase(control, phase);
@@ -40,7 +40,7 @@ fn failing_on(control: Control, clear: bool, status: NlmeJoinStatus) -> Decision
     ensures { result ≡ clearing clear (failing status control) }
 {
     let step = Step::Joined(join_failure(status));
-    moving(control, clear, Move::Stay, step, Phase::Idle)
+    moving(control, Phase::Idle, clear, Move::Stay, step)
 }
 
 // The same, with the candidate being tried as it is.

@@ -9,7 +9,7 @@ use management::{NlmeJoinConfirm, NlmeJoinRequest, NlmeJoinStatus, RejoinRespons
 use nib::{ExtendedPanId, NwkNeighbor, neighbor_table};
 use nlme::Nlme;
 use operation::{
-    Control, Decision, Move, Note, Operation, Phase, Purpose, RadioRequest, ScanFor, Step,
+    Control, Decision, Move, Note, Operation, Phase, RadioRequest, ReceptionFor, ScanFor, Step,
     TransmissionFor,
 };
 
@@ -172,7 +172,7 @@ pub fn try_next(control: Control, status: NlmeJoinStatus, next: Option<NwkNeighb
 
 // A try has failed: the next candidate, or the scan after the remembered parent.
 #[tactic(auto, unfolding(crate::specs::Rejoin::try_failed))]
-fn try_failed(control: Control, status: NlmeJoinStatus, next: Option<NwkNeighbor>) -> Decision
+fn fail_try(control: Control, status: NlmeJoinStatus, next: Option<NwkNeighbor>) -> Decision
     ensures { result ≡ try_failed status next control }
 {
     if control.operation.scan_requested {
@@ -219,16 +219,16 @@ fn decide_response(
     if response.status == 0 {
         return finish_rejoin(control, response);
     }
-    try_failed(control, crate::failed_status(response.status), next)
+    fail_try(control, crate::failed_status(response.status), next)
 }
 
 // Without a response the polls go on while any is left.
 #[tactic(auto, using(operation::proofs::Polls::polls_on))]
 fn poll_again(control: Control, parent: Option<NwkNeighbor>, next: Option<NwkNeighbor>) -> Decision
-    ensures { result ≡ poll_on Purpose.RejoinResponse parent (try_failed NlmeJoinStatus.MacError next) control }
+    ensures { result ≡ poll_on ReceptionFor.RejoinResponse parent (try_failed NlmeJoinStatus.MacError next) control }
 {
-    let over = |control| try_failed(control, NlmeJoinStatus::MacError, next);
-    operation::next_poll(control, Purpose::RejoinResponse, parent).unwrap_or_else(over)
+    let over = |control| fail_try(control, NlmeJoinStatus::MacError, next);
+    operation::next_poll(control, ReceptionFor::RejoinResponse, parent).unwrap_or_else(over)
 }
 
 // Within a try: its response ends it, or the polls go on.
@@ -262,5 +262,5 @@ pub fn decide_request(
     if sent {
         return try_goes_on(control, parent, next);
     }
-    try_failed(control, NlmeJoinStatus::MacError, next)
+    fail_try(control, NlmeJoinStatus::MacError, next)
 }

@@ -30,13 +30,13 @@ use Rattle.operation.specs.Operation.{scan_for, association_for, transmission_fo
 use Rattle.operation.specs.declared.Control.{Control}
 use Rattle.operation.specs.declared.Decision.{Decision}
 use Rattle.operation.specs.declared.Phase.{Phase}
-use Rattle.operation.specs.declared.Purpose.{Purpose}
+use Rattle.operation.specs.declared.ReceptionFor.{ReceptionFor}
 use Rattle.operation.specs.declared.ScanFor.{ScanFor}
 use Rattle.operation.specs.declared.TransmissionFor.{TransmissionFor}
 use Rattle.exchange.specs.Exchange.{receive_started}
-use Rattle.node.specs.Looks.{parent, broadcast, next, finish}
+use Rattle.node.specs.Looks.{parent, broadcast, next, deciding_with}
 use Rattle.node.specs.Refusals.{refuse, start, outcome}
-use Rattle.node.specs.Calls.{with_chosen, associate, join_by, scan_failed, with_scan, scan_heard, scan_over, continuing, go_on, with_node, table_changed, after, handled_on, taught_on, processed, reception_over, after_leave, transmission_over, Call, discovery, join, send, poll, receive, timeout, scan, association, transmission, reception, elapsed, take_leave, take_status, made, answer}
+use Rattle.node.specs.Calls.{with_chosen, associate, join_by, scan_failed, with_scan, scan_heard, scan_decided, continuing, go_on, with_node, table_changed, after_frame, handled_on, taught_on, processed, reception_decided, after_leave, transmission_decided, Call, discovery, join, send, poll, receive, timeout, scan, association, transmission, reception, elapsed, take_leave, take_status, made, answer}
 use Rattle.node.specs.declared.Answer.{Answer}
 use Rattle.node.specs.declared.State.{State}
 use Rattle.refusals.specs.Statement.{phase, Bad}
@@ -56,22 +56,22 @@ use Rattle.operation.specs.declared.Refusal.TheVariants.{OperationUnderWay, NotA
 abbrev slot : Nlme → Option NlmeLeaveIndication
 slot n = n.signals.leave_indication
 
-after-slot : (u : Purpose) (t : Then) (s : State) → indication (after u t s).state ≡ indication s
-unfolding after finish
+after-slot : (u : ReceptionFor) (t : Then) (s : State) → indication (after_frame u t s).state ≡ indication s
+unfolding after_frame deciding_with
 after-slot u (Then.Over a) s = (continuing-made u a (parent s) (next s) s.control).1
 after-slot u (Then.Announce a) s = refl
 
 -- once it is over, no announcement is awaited
-over-phase : (u : Purpose) (a : PollAnswer) (s : State) → NotLeaving (phase (after u (Then.Over a) s).state)
-unfolding after finish
+over-phase : (u : ReceptionFor) (a : PollAnswer) (s : State) → NotLeaving (phase (after_frame u (Then.Over a) s).state)
+unfolding after_frame deciding_with
 over-phase u a s = (continuing-made u a (parent s) (next s) s.control).2
 
 -- no indication is handed out
-handled-told : (u : Purpose) (h : Handled) (s : State) → NotTaken (handled_on u h s).step
-unfolding after finish
+handled-told : (u : ReceptionFor) (h : Handled) (s : State) → NotTaken (handled_on u h s).step
+unfolding after_frame deciding_with
 handled-told u h s = go h.then
   where
-    go : (t : Then) → NotTaken (after u t (table_changed h.removed (with_node h.nlme s))).step
+    go : (t : Then) → NotTaken (after_frame u t (table_changed h.removed (with_node h.nlme s))).step
     go (Then.Over a) = (continuing-made u a _ _ _).3
     go (Then.Announce a) = tt
 
@@ -81,7 +81,7 @@ changed-control None s = refl
 changed-control (Some a) s = refl
 
 -- the slot is what the frame's handling leaves in it
-handled-slot : (u : Purpose) (h : Handled) (s : State) → indication (handled_on u h s).state ≡ slot h.nlme
+handled-slot : (u : ReceptionFor) (h : Handled) (s : State) → indication (handled_on u h s).state ≡ slot h.nlme
 handled-slot u h s =
     after-slot u h.then (table_changed h.removed (with_node h.nlme s)) ∙ ap (λ (c : Control). slot c.nlme) (changed-control h.removed (with_node h.nlme s))
 
@@ -98,7 +98,7 @@ timeout-slot r n =
     (λ _. refl) refl
 
 -- a leave command
-module _ (u : Purpose) (s : State) (f : Source) (d : ShortAddress) (o : LeaveOptions) where
+module _ (u : ReceptionFor) (s : State) (f : Source) (d : ShortAddress) (o : LeaveOptions) where
   abbrev here : State
   here = learned s f d o
 
@@ -160,7 +160,7 @@ module _ (u : Purpose) (s : State) (f : Source) (d : ShortAddress) (o : LeaveOpt
       handled-slot u whole here ∙ ap (λ (h : Handled). slot h.nlme) (asked_is e) ∙ by_cases (λ (h : Handled). slot h.nlme ≡ slot n) accepted {x = announced_then} {y = declined} (λ _. refl) refl
 
   pub accepted-phase : o.request ≡ true → accepted ≡ true → phase handling.state ≡ announcing u o.rejoin
-  unfolding handled leave_requested after finish
+  unfolding handled leave_requested after_frame deciding_with
   accepted-phase e t = ap (λ (h : Handled). phase (handled_on u h here).state) (asked_is e ∙ cond-true accepted announced_then declined t)
 
   declined-phase : o.request ≡ true → accepted ≡ false → NotLeaving (phase handling.state)
@@ -179,7 +179,7 @@ pub data Slot (s : State) (c : Call) (a : Answer) : Type 0 where
 pub data Next (s : State) (c : Call) (a : Answer) : Type 0 where
   stays : phase a.state ≡ phase s → Next s c a
   elsewhere : NotLeaving (phase a.state) → Next s c a
-  announced : (u : Purpose) (rejoin : Bool) → Requested s c u rejoin → phase a.state ≡ announcing u rejoin → Next s c a
+  announced : (u : ReceptionFor) (rejoin : Bool) → Requested s c u rejoin → phase a.state ≡ announcing u rejoin → Next s c a
 
 pub data HandsOut (c : Call) (a : Answer) : Type 0 where
   not_taken : NotTaken a.step → HandsOut c a
@@ -194,8 +194,8 @@ module _ (s : State) (c : Call) where
   refused-got k = (kept refl, stays refl, not_taken tt)
 
   -- a decision on the state's control part, whatever it writes to the table and the candidates of x
-  made_got : (reset : Bool) (x : State) (d : Decision) → Made s.control d → Got s c (finish reset x d)
-  unfolding finish
+  made_got : (reset : Bool) (x : State) (d : Decision) → Made s.control d → Got s c (deciding_with reset x d)
+  unfolding deciding_with
   made_got reset x d h = (kept h.1, elsewhere h.2, not_taken h.3)
 
   start-got : (a : Answer) → Got s c a → Got s c (start a s)
@@ -221,8 +221,8 @@ join-got s r RejoinNetwork.NwkRejoin = made_got s (join r) false _ _ (rejoin-mad
 join-got s r RejoinNetwork.ChannelChange = made_got s (join r) false _ _ (refl, refl, tt, tt)
 
 -- a scan
-scan-got : (s : State) (o : Result PanDescriptorList MacError) (u : ScanFor) → Got s (scan o) (scan_over o u s)
-unfolding scan_over scan_failed scan_heard with_scan with_chosen
+scan-got : (s : State) (o : Result PanDescriptorList MacError) (u : ScanFor) → Got s (scan o) (scan_decided o u s)
+unfolding scan_decided scan_failed scan_heard with_scan with_chosen
 scan-got s (Err e) u = failed u
   where
     failed : (v : ScanFor) → Got s (scan (Err e)) (scan_failed v s)
@@ -243,15 +243,15 @@ left-slot-after true s = refl
 left-slot-after false s = refl
 
 -- the outcome of an announcement
-pub announced-made : (u : Purpose) (rejoin : Bool) (s : State) → Made (after_leave rejoin s).control (continuing u PollAnswer.PollNothing (parent (after_leave rejoin s)) (next (after_leave rejoin s)) (after_leave rejoin s).control)
+pub announced-made : (u : ReceptionFor) (rejoin : Bool) (s : State) → Made (after_leave rejoin s).control (continuing u PollAnswer.PollNothing (parent (after_leave rejoin s)) (next (after_leave rejoin s)) (after_leave rejoin s).control)
 announced-made u rejoin s = continuing-made u _ _ _ _
 
-pub announced-slot : (u : Purpose) (rejoin : Bool) (s : State) → indication (go_on (not rejoin) u PollAnswer.PollNothing (after_leave rejoin s)).state ≡ indicated LeavingDevice.ThisDevice rejoin
-unfolding finish
+pub announced-slot : (u : ReceptionFor) (rejoin : Bool) (s : State) → indication (go_on (not rejoin) u PollAnswer.PollNothing (after_leave rejoin s)).state ≡ indicated LeavingDevice.ThisDevice rejoin
+unfolding deciding_with
 announced-slot u rejoin s = (announced-made u rejoin s).1 ∙ left-slot-after rejoin s
 
-transmission-got : (s : State) (ok : Bool) (u : TransmissionFor) → Awaits s (Phase.Transmission u) → Got s (transmission ok) (transmission_over ok u s)
-unfolding transmission_over finish
+transmission-got : (s : State) (ok : Bool) (u : TransmissionFor) → Awaits s (Phase.Transmission u) → Got s (transmission ok) (transmission_decided ok u s)
+unfolding transmission_decided deciding_with
 transmission-got s ok TransmissionFor.RejoinRequest w = made_got s (transmission ok) false _ _ (request-made ok _ _ s.control)
 transmission-got s ok TransmissionFor.Data w = made_got s (transmission ok) false _ _ (sent-made ok _ s.control)
 transmission-got s ok (TransmissionFor.TimeoutRequest u) w = made_got s (transmission ok) false _ _ (timeout_sent-made u ok _ s.control)
@@ -265,7 +265,7 @@ indicates {f = f} l (holds p) x e = inl (f, l, p)
 indicates {f = f} l (fails p) None e = (f, l, p, e, refl)
 indicates {f = f} l (fails p) (Some x) e = (f, l, p, e)
 
-module _ (s : State) (u : Purpose) (w : Awaits s (Phase.Reception u)) where
+module _ (s : State) (u : ReceptionFor) (w : Awaits s (Phase.Reception u)) where
   abbrev call : ReceivedFrame → Call
   call f = reception (Ok (Some f))
 
@@ -304,19 +304,19 @@ module _ (s : State) (u : Purpose) (w : Awaits s (Phase.Reception u)) where
   frame-got (ReceivedFrame.OtherCommand f) = plain-got _ s.control.nlme _ refl
   frame-got ReceivedFrame.OtherFrame = plain-got _ s.control.nlme _ refl
 
-  reception-got : (o : Result (Option ReceivedFrame) MacError) → Got s (reception o) (reception_over o u s)
-  unfolding reception_over
+  reception-got : (o : Result (Option ReceivedFrame) MacError) → Got s (reception o) (reception_decided o u s)
+  unfolding reception_decided
   reception-got (Ok None) = made_got s _ false _ _ (continuing-made u _ _ _ s.control)
   reception-got (Err e) = made_got s _ false _ _ (continuing-made u _ _ _ s.control)
   reception-got (Ok (Some f)) = frame-got f
 
 -- a tick
 pub tick-slot : (s : State) (ms : ℕ) → indication (made s (elapsed ms)).state ≡ indication s
-unfolding expiry_signalled link_failure finish
+unfolding expiry_signalled link_failure deciding_with
 tick-slot s ms = by_cases (λ (n : Nlme). slot n ≡ indication s) (ticked s.control.nlme.parent_timer ms).expired (λ _. refl) refl
 
 module _ (s : State) (good : Bad s → ⊥) where
-  reception-answered : (o : Result (Option ReceivedFrame) MacError) (p : Phase) → phase s ≡ p → Got s (reception o) (outcome (reception_for p) (reception_over o) s)
+  reception-answered : (o : Result (Option ReceivedFrame) MacError) (p : Phase) → phase s ≡ p → Got s (reception o) (outcome (reception_for p) (reception_decided o) s)
   unfolding outcome
   reception-answered o (Phase.Reception u) e = reception-got s u (good, e) o
   reception-answered o Phase.Idle e = refused-got s _ NotAwaited
@@ -324,7 +324,7 @@ module _ (s : State) (good : Bad s → ⊥) where
   reception-answered o Phase.Association e = refused-got s _ NotAwaited
   reception-answered o (Phase.Transmission u) e = refused-got s _ NotAwaited
 
-  transmission-answered : (ok : Bool) (p : Phase) → phase s ≡ p → Got s (transmission ok) (outcome (transmission_for p) (transmission_over ok) s)
+  transmission-answered : (ok : Bool) (p : Phase) → phase s ≡ p → Got s (transmission ok) (outcome (transmission_for p) (transmission_decided ok) s)
   unfolding outcome
   transmission-answered ok (Phase.Transmission u) e = transmission-got s ok u (good, e)
   transmission-answered ok Phase.Idle e = refused-got s _ NotAwaited
@@ -333,7 +333,7 @@ module _ (s : State) (good : Bad s → ⊥) where
   transmission-answered ok (Phase.Reception u) e = refused-got s _ NotAwaited
 
   call-got : (c : Call) → Got s c (made s c)
-  unfolding receive_started finish
+  unfolding receive_started deciding_with
   call-got (discovery r) = start-got s _ _ (made_got s _ false _ _ (refl, refl, tt, tt))
   call-got (join r) = start-got s _ _ (join-got s r r.rejoin_network)
   call-got (send d secure) = start-got s _ _ (made_got s _ false _ _ (send-made d secure _ s.control))

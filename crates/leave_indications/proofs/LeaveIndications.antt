@@ -17,15 +17,15 @@ use Rattle.supervision.specs.declared.parent_timer.ParentTimer.{ParentTimer}
 use Rattle.exchange.specs.Exchange.{timeout_refreshed}
 use Rattle.operation.specs.Operation.{is_idle, scan_for, association_for, transmission_for, reception_for}
 use Rattle.operation.specs.declared.Phase.{Phase}
-use Rattle.operation.specs.declared.Purpose.{Purpose}
+use Rattle.operation.specs.declared.ReceptionFor.{ReceptionFor}
 use Rattle.operation.specs.declared.Step.{Step}
 use Rattle.operation.specs.declared.TransmissionFor.{TransmissionFor}
-use Rattle.node.specs.Looks.{finish, deciding, moved, potential_cleared}
+use Rattle.node.specs.Looks.{deciding_with, deciding, moved, potential_cleared}
 use Rattle.node.specs.Refusals.{refuse, bad, start, outcome}
-use Rattle.node.specs.Calls.{reception_over, transmission_over, Call, discovery, join, send, poll, receive, timeout, scan, association, transmission, reception, elapsed, take_leave, take_status, made, answer, scanned, refresh}
+use Rattle.node.specs.Calls.{reception_decided, transmission_decided, Call, discovery, join, send, poll, receive, timeout, scan, association, transmission, reception, elapsed, take_leave, take_status, made, answer, scanned, refresh}
 use Rattle.node.specs.declared.Answer.{Answer}
 use Rattle.node.specs.declared.State.{State}
-use Rattle.lent_tick.specs.LentTick.{with_timer, lent_turned_down, with_record, lent_tick}
+use Rattle.lent_tick.specs.LentTick.{with_parent_timer, lent_turned_down, with_record, lent_tick}
 use Rattle.lent_tick.specs.declared.LentTicked.{LentTicked}
 use Rattle.refusals.specs.Statement.{phase, Bad}
 use Rattle.refusals.proofs.Conditions.{Tells, holds, fails, bad-told}
@@ -76,16 +76,16 @@ answer-good s c good = cond-false (bad s) (refuse BadState s) (made s c) (told-f
 abbrev options : Bool → Bool → Bool → LeaveOptions
 options request rejoin children = record { request = request; rejoin = rejoin; remove_children = children }
 
-module _ {s : State} {c : Call} {u : Purpose} {f : Source} {d : ShortAddress} {request rejoin : Bool} (b : Brought s c u f d request rejoin) where
+module _ {s : State} {c : Call} {u : ReceptionFor} {f : Source} {d : ShortAddress} {request rejoin : Bool} (b : Brought s c u f d request rejoin) where
   abbrev o : LeaveOptions
   o = options request rejoin b.children
 
   brought-answer : answer s c ≡ handling u s f d o
-  unfolding outcome reception_over
+  unfolding outcome reception_decided
   brought-answer =
       ap (answer s) b.call
       ∙ answer-good s _ b.awaited.0
-      ∙ ap (λ (p : Phase). outcome (reception_for p) (reception_over (Ok (Some (ReceivedFrame.LeaveCommand f d o)))) s) b.awaited.1
+      ∙ ap (λ (p : Phase). outcome (reception_for p) (reception_decided (Ok (Some (ReceivedFrame.LeaveCommand f d o)))) s) b.awaited.1
 
 module _ {s : State} {c : Call} {f : Source} {rejoin : Bool} (l : Leaves s c f rejoin) where
   left-answer : indication (answer s c).state ≡ indicated (cond (by_parent s f l.1 (o l.2)) LeavingDevice.ThisDevice (neighbor_leaving f.ieee f.address)) rejoin
@@ -100,10 +100,10 @@ module _ {s : State} {c : Call} {f : Source} {rejoin : Bool} (l : Leaves s c f r
 -- THE STATEMENT
 
 announced-answer : (s : State) (c : Call) (rejoin : Bool) → Announced s c rejoin → indication (answer s c).state ≡ indicated LeavingDevice.ThisDevice rejoin
-unfolding outcome transmission_over
+unfolding outcome transmission_decided
 announced-answer s c rejoin (u, sent, w, e) =
     ap (λ (a : Answer). indication a.state)
-    (ap (answer s) e ∙ answer-good s _ w.0 ∙ ap (λ (p : Phase). outcome (transmission_for p) (transmission_over sent) s) w.1)
+    (ap (answer s) e ∙ answer-good s _ w.0 ∙ ap (λ (p : Phase). outcome (transmission_for p) (transmission_decided sent) s) w.1)
     ∙ announced-slot u rejoin s
 
 newest : (s : State) (c : Call) (device : LeavingDevice) (rejoin : Bool) → Indicates s c device rejoin → indication (answer s c).state ≡ indicated device rejoin
@@ -135,7 +135,7 @@ unchanged s c n m = go (answer-got s c).0
 
 taken : (s : State) → (Bad s → ⊥)
     → ((answer s take_leave).step ≡ Step.LeaveTaken (indication s)) × (indication (answer s take_leave).state ≡ None)
-unfolding finish
+unfolding deciding_with
 taken s good =
     (ap (λ (a : Answer). a.step) (answer-good s take_leave good), ap (λ (a : Answer). indication a.state) (answer-good s take_leave good))
 
@@ -147,20 +147,20 @@ never-ours s c f rejoin other l n e = false≢true (sym (go f.ieee) ∙ ap (λ x
     go None = refl
     go (Some x) = refl
 
-nothing_yet : (s : State) (c : Call) (u : Purpose) (f : Source) (d : ShortAddress) (rejoin : Bool) → Brought s c u f d true rejoin
+nothing_yet : (s : State) (c : Call) (u : ReceptionFor) (f : Source) (d : ShortAddress) (rejoin : Bool) → Brought s c u f d true rejoin
     → indication (answer s c).state ≡ indication s
 nothing_yet s c u f d rejoin b = ap (λ a. indication a.state) (brought-answer b) ∙ request-slot u s f d (o b) refl
 
 -- the purpose and the rejoin bit of an announcement that is awaited; in another phase any
-abbrev purpose_of : Phase → Purpose
+abbrev purpose_of : Phase → ReceptionFor
 purpose_of (Phase.Transmission (TransmissionFor.Leave l)) = l.purpose
-purpose_of (Phase.Transmission TransmissionFor.RejoinRequest) = Purpose.SinglePoll
-purpose_of (Phase.Transmission TransmissionFor.Data) = Purpose.SinglePoll
-purpose_of (Phase.Transmission (TransmissionFor.TimeoutRequest u)) = Purpose.SinglePoll
-purpose_of Phase.Idle = Purpose.SinglePoll
-purpose_of (Phase.Scan u) = Purpose.SinglePoll
-purpose_of Phase.Association = Purpose.SinglePoll
-purpose_of (Phase.Reception u) = Purpose.SinglePoll
+purpose_of (Phase.Transmission TransmissionFor.RejoinRequest) = ReceptionFor.SinglePoll
+purpose_of (Phase.Transmission TransmissionFor.Data) = ReceptionFor.SinglePoll
+purpose_of (Phase.Transmission (TransmissionFor.TimeoutRequest u)) = ReceptionFor.SinglePoll
+purpose_of Phase.Idle = ReceptionFor.SinglePoll
+purpose_of (Phase.Scan u) = ReceptionFor.SinglePoll
+purpose_of Phase.Association = ReceptionFor.SinglePoll
+purpose_of (Phase.Reception u) = ReceptionFor.SinglePoll
 
 abbrev bit_of : Phase → Bool
 bit_of (Phase.Transmission (TransmissionFor.Leave l)) = l.rejoin
@@ -174,14 +174,14 @@ bit_of (Phase.Reception u) = false
 
 -- the outcome of an announcement ends it
 announced-over : (s : State) (c : Call) (rejoin : Bool) → Announced s c rejoin → NotLeaving (phase (answer s c).state)
-unfolding finish transmission_over outcome
+unfolding deciding_with transmission_decided outcome
 announced-over s c rejoin (u, sent, w, e) =
     subst⁻¹ (λ (a : Answer). NotLeaving (phase a.state))
-    (ap (answer s) e ∙ answer-good s _ w.0 ∙ ap (λ (p : Phase). outcome (transmission_for p) (transmission_over sent) s) w.1)
+    (ap (answer s) e ∙ answer-good s _ w.0 ∙ ap (λ (p : Phase). outcome (transmission_for p) (transmission_decided sent) s) w.1)
     (announced-made u rejoin s).2
 
 -- any other call leaves it awaited
-module _ (s : State) (u : Purpose) (rejoin : Bool) (e : phase s ≡ announcing u rejoin) where
+module _ (s : State) (u : ReceptionFor) (rejoin : Bool) (e : phase s ≡ announcing u rejoin) where
   refused-phase : (k : Refusal) → phase (refuse k s).state ≡ announcing u rejoin
   unfolding refuse
   refused-phase k = e
@@ -195,7 +195,7 @@ module _ (s : State) (u : Purpose) (rejoin : Bool) (e : phase s ≡ announcing u
   other-phase kind g q = ap (λ w. phase (outcome w g s).state) (ap kind e ∙ q) ∙ refused-phase NotAwaited
 
   made-phase : (c : Call) → ((sent : Bool) → c ≡ transmission sent → ⊥) → phase (made s c).state ≡ announcing u rejoin
-  unfolding finish
+  unfolding deciding_with
   made-phase (discovery r) n = started-phase _
   made-phase (join r) n = started-phase _
   made-phase (send d secure) n = started-phase _
@@ -218,7 +218,7 @@ module _ (s : State) (u : Purpose) (rejoin : Bool) (e : phase s ≡ announcing u
       go (holds h) = refused-phase BadState
       go (fails h) = made-phase c (λ sent q. n (u, sent, (h, e), q))
 
-announces : (s : State) (c : Call) (u : Purpose) (rejoin : Bool)
+announces : (s : State) (c : Call) (u : ReceptionFor) (rejoin : Bool)
     → (phase (answer s c).state ≡ announcing u rejoin) ↔ (Requested s c u rejoin ⊎ ((phase s ≡ announcing u rejoin) × (Announced s c rejoin → ⊥)))
 announces s c u rejoin = (λ e. to e (answer-got s c).1, ⊎_elim from (λ w. waiting s u rejoin w.0 c w.1))
   where
@@ -227,7 +227,7 @@ announces s c u rejoin = (λ e. to e (answer-got s c).1, ⊎_elim from (λ w. wa
     to e (stays k) = inr (sym k ∙ e, λ w. subst NotLeaving e (announced-over s c rejoin w))
     to e (elsewhere k) = absurd (subst NotLeaving e k)
     to e (announced v r q k) =
-        inl (subst (λ (x : Purpose). Requested s c x rejoin) (ap purpose_of (sym k ∙ e)) (subst (λ (x : Bool). Requested s c v x) (ap bit_of (sym k ∙ e)) q))
+        inl (subst (λ (x : ReceptionFor). Requested s c x rejoin) (ap purpose_of (sym k ∙ e)) (subst (λ (x : Bool). Requested s c v x) (ap bit_of (sym k ∙ e)) q))
 
     from : Requested s c u rejoin → phase (answer s c).state ≡ announcing u rejoin
     from (f, d, b, a) = ap (λ x. phase x.state) (brought-answer b) ∙ accepted-phase u s f d (o b) refl (told-true (accepts-told s f d (o b)) a)
@@ -241,16 +241,16 @@ only-taken s c x e = go (answer-got s c).2
 
 -- the tick over a lent record
 module _ (t : ParentTimer) (ms : ℕ) (s : State) where
-  lent_by : (P : State → Type 0) → P s → P (with_timer t s) → P (made (with_timer t s) (elapsed ms)).state → P (lent_tick t ms s).answer.state
+  lent_by : (P : State → Type 0) → P s → P (with_parent_timer t s) → P (made (with_parent_timer t s) (elapsed ms)).state → P (lent_tick t ms s).answer.state
   unfolding lent_tick answer refuse
   lent_by P h k m =
-      by_cases (λ (x : LentTicked). P x.answer.state) (bad s) {x = lent_turned_down t s} {y = with_record (answer (with_timer t s) (elapsed ms))} (λ _. h)
-      (by_cases (λ (x : Answer). P x.state) (bad (with_timer t s)) {x = refuse BadState (with_timer t s)} {y = made (with_timer t s) (elapsed ms)} (λ _. k) m)
+      by_cases (λ (x : LentTicked). P x.answer.state) (bad s) {x = lent_turned_down t s} {y = with_record (answer (with_parent_timer t s) (elapsed ms))} (λ _. h)
+      (by_cases (λ (x : Answer). P x.state) (bad (with_parent_timer t s)) {x = refuse BadState (with_parent_timer t s)} {y = made (with_parent_timer t s) (elapsed ms)} (λ _. k) m)
 
   lent : (indication (lent_tick t ms s).answer.state ≡ indication s) × (phase (lent_tick t ms s).answer.state ≡ phase s)
-  unfolding finish
+  unfolding deciding_with
   lent =
-      (lent_by (λ x. indication x ≡ indication s) refl refl (tick-slot (with_timer t s) ms), lent_by (λ x. phase x ≡ phase s) refl refl refl)
+      (lent_by (λ x. indication x ≡ indication s) refl refl (tick-slot (with_parent_timer t s) ms), lent_by (λ x. phase x ≡ phase s) refl refl refl)
 
 confirmed : (s : State) (o : Result PanDescriptorList MacError) → (scanned o s).answer ≡ answer s (scan o)
 unfolding scanned
@@ -258,7 +258,7 @@ confirmed s o = refl
 
 -- the restart of the timer
 refresh-kept : (s : State) → (indication (refresh s).state ≡ indication s) × (phase (refresh s).state ≡ phase s)
-unfolding refresh refuse finish potential_cleared moved refreshed
+unfolding refresh refuse deciding_with potential_cleared moved refreshed
 refresh-kept s = go (bad s)
   where
     go : (b : Bool) → (indication (cond b (refuse BadState s) (deciding s (timeout_refreshed s.control))).state ≡ indication s)

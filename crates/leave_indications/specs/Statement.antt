@@ -11,7 +11,7 @@ use Rattle.management.specs.declared.LeavingDevice.{LeavingDevice}
 use Rattle.management.specs.declared.frame.Source.{Source}
 use Rattle.management.specs.declared.frame.ReceivedFrame.{ReceivedFrame}
 use Rattle.supervision.specs.declared.parent_timer.ParentTimer.{ParentTimer}
-use Rattle.operation.specs.declared.Purpose.{Purpose}
+use Rattle.operation.specs.declared.ReceptionFor.{ReceptionFor}
 use Rattle.operation.specs.declared.TransmissionFor.{TransmissionFor}
 use Rattle.operation.specs.declared.Phase.{Phase}
 use Rattle.operation.specs.declared.Step.{Step}
@@ -43,14 +43,14 @@ abbrev pub Awaits : State → Phase → Type 0
 Awaits s p = (Bad s → ⊥) × (phase s ≡ p)
 
 -- a call hands in a leave command that a poll or a receive for u has brought: its sender and destination, its request bit and its rejoin bit
-pub record Brought (s : State) (c : Call) (u : Purpose) (f : Source) (d : ShortAddress) (request rejoin : Bool) : Type 0 where
+pub record Brought (s : State) (c : Call) (u : ReceptionFor) (f : Source) (d : ShortAddress) (request rejoin : Bool) : Type 0 where
   pub awaited : Awaits s (Phase.Reception u)
   pub children : Bool
   pub call : c ≡ reception (Ok (Some (ReceivedFrame.LeaveCommand f d (record { request = request; rejoin = rejoin; remove_children = children }))))
 
 -- a leave without the request bit
 abbrev pub Leaves : State → Call → Source → Bool → Type 0
-Leaves s c f rejoin = (u : Purpose) × (d : ShortAddress) × Brought s c u f d false rejoin
+Leaves s c f rejoin = (u : ReceptionFor) × (d : ShortAddress) × Brought s c u f d false rejoin
 
 -- a request is accepted by `accepts_leave_request`: not by the coordinator, and not to a broadcast address;
 -- by a router as nwkLeaveRequestAllowed says, by an end device from its parent
@@ -60,15 +60,15 @@ pub record Accepts (s : State) (f : Source) (d : ShortAddress) : Type 0 where
   pub router : bit 1 s.control.nlme.nib.capability_information.0 ≡ true → s.control.nlme.nib.leave_request_allowed ≡ true
   pub end-device : bit 1 s.control.nlme.nib.capability_information.0 ≡ false → FromParent f s
 
-abbrev pub Requested : State → Call → Purpose → Bool → Type 0
+abbrev pub Requested : State → Call → ReceptionFor → Bool → Type 0
 Requested s c u rejoin = (f : Source) × (d : ShortAddress) × Brought s c u f d true rejoin × Accepts s f d
 
 -- the outcome of an accepted request's announcement, sent or not
-abbrev pub announcing : Purpose → Bool → Phase
+abbrev pub announcing : ReceptionFor → Bool → Phase
 announcing u rejoin = Phase.Transmission (TransmissionFor.Leave (record { purpose = u; rejoin = rejoin }))
 
 abbrev pub Announced : State → Call → Bool → Type 0
-Announced s c rejoin = (u : Purpose) × (sent : Bool) × Awaits s (announcing u rejoin) × (c ≡ transmission sent)
+Announced s c rejoin = (u : ReceptionFor) × (sent : Bool) × Awaits s (announcing u rejoin) × (c ≡ transmission sent)
 
 -- what a call indicates
 abbrev pub Indicates : State → Call → LeavingDevice → Bool → Type 0
@@ -99,9 +99,9 @@ pub record LeaveIndications : Type 0 where
   pub never-ours : (s : State) (c : Call) (f : Source) (rejoin other : Bool) → Leaves s c f rejoin → (FromParent f s → ⊥)
       → indication (answer s c).state ≡ indicated LeavingDevice.ThisDevice other → ⊥
   -- a request indicates nothing when it comes
-  pub nothing_yet : (s : State) (c : Call) (u : Purpose) (f : Source) (d : ShortAddress) (rejoin : Bool) → Brought s c u f d true rejoin
+  pub nothing_yet : (s : State) (c : Call) (u : ReceptionFor) (f : Source) (d : ShortAddress) (rejoin : Bool) → Brought s c u f d true rejoin
       → indication (answer s c).state ≡ indication s
   -- the outcome of an announcement is awaited exactly if an accepted request has come, and until that outcome.
   -- So a request that is turned down is never indicated, and an accepted one once
-  pub announces : (s : State) (c : Call) (u : Purpose) (rejoin : Bool)
+  pub announces : (s : State) (c : Call) (u : ReceptionFor) (rejoin : Bool)
       → (phase (answer s c).state ≡ announcing u rejoin) ↔ (Requested s c u rejoin ⊎ ((phase s ≡ announcing u rejoin) × (Announced s c rejoin → ⊥)))

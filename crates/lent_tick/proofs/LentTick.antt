@@ -8,20 +8,21 @@ use Rattle.std.proofs.lemmas.Bool.{cond-true, cond-false}
 use Rattle.supervision.specs.declared.parent_timer.ParentTimer.{ParentTimer}
 use Rattle.operation.specs.declared.Step.TheVariants.{Refused}
 use Rattle.operation.specs.contracts.Step.{the_type}
-use Rattle.node.specs.Looks.{finish}
+use Rattle.node.specs.Looks.{deciding_with}
 use Rattle.node.specs.Refusals.{bad, refuse}
 use Rattle.node.specs.Calls.{elapsed, answer}
 use Rattle.node.specs.declared.State.{State}
 use Rattle.node.specs.declared.Answer.{Answer}
 use Rattle.lent_tick.specs.declared.LentTicked.{LentTicked}
 use Rattle.lent_tick.specs.OwnRecord.{OwnRecord}
-use Rattle.lent_tick.specs.LentTick.{timer_of, with_timer, with_state, lent_turned_down, with_record, lent_tick}
+use Rattle.lent_tick.specs.Private.{with_state}
+use Rattle.lent_tick.specs.LentTick.{timer_of, with_parent_timer, lent_turned_down, with_record, lent_tick}
 use Rattle.operation.specs.declared.Refusal.{Refusal}
 use Rattle.operation.specs.declared.Refusal.TheVariants.{BadState}
 
 -- the tag of a tick's answer: 0 for a refusal, 9 for one that says whether the timer expired
 tag-of : (ms : ℕ) (s : State) → tag_of the_type (answer s (elapsed ms)).step ≡ cond (bad s) 0 9
-unfolding answer finish refuse
+unfolding answer deciding_with refuse
 tag-of ms s = go (bad s) _ refl
   where
     go : (b : Bool) (a : Answer) → tag_of the_type a.step ≡ 9 → tag_of the_type (cond b (refuse BadState s) a).step ≡ cond b 0 9
@@ -29,15 +30,15 @@ tag-of ms s = go (bad s) _ refl
     go false a h = h
 
 -- a is the tick of the state with the lent record: if it says that it was refused, 5 turned it down; if it says anything else, 5 did not
-module _ (t : ParentTimer) (ms : ℕ) (s : State) (a : Answer) (e : a ≡ answer (with_timer t s) (elapsed ms)) where
+module _ (t : ParentTimer) (ms : ℕ) (s : State) (a : Answer) (e : a ≡ answer (with_parent_timer t s) (elapsed ms)) where
   tag : tag_of the_type a.step ≡ cond (bad s) 0 9
   unfolding bad
-  tag = ap (λ (x : Answer). tag_of the_type x.step) e ∙ tag-of ms (with_timer t s)
+  tag = ap (λ (x : Answer). tag_of the_type x.step) e ∙ tag-of ms (with_parent_timer t s)
 
   -- the refusal of the state with the lent record is, with the state as handed in, the one of that state
   refused-alike : bad s ≡ true → with_state s a ≡ refuse BadState s
   unfolding answer bad refuse
-  refused-alike q = ap (with_state s) (e ∙ cond-true (bad s) (refuse BadState (with_timer t s)) _ q)
+  refused-alike q = ap (with_state s) (e ∙ cond-true (bad s) (refuse BadState (with_parent_timer t s)) _ q)
 
   pub if-refused : (n : Refusal) → a.step ≡ Refused n → record { timer = t; answer = with_state s a } ≡ lent_tick t ms s
   unfolding lent_tick

@@ -1,7 +1,7 @@
 -- A tick over a lent timer record (01, "Supervision record": "The timer interrupt lends its record and finds it updated there"; Zigbee 3.6.10.6).
 use Rattle.std.specs.Prelude.{ℕ, cond}
 use Rattle.supervision.specs.declared.parent_timer.ParentTimer.{ParentTimer}
-use Rattle.nlme.specs.Fields as fields
+use Rattle.nlme.specs.Fields.{with_timer}
 use Rattle.node.specs.Refusals.{bad, refuse}
 use Rattle.node.specs.Calls.{with_node, elapsed, answer}
 use Rattle.node.specs.declared.State.{State}
@@ -13,12 +13,8 @@ use Rattle.operation.specs.declared.Refusal.TheVariants.{BadState}
 abbrev pub timer_of : State → ParentTimer
 timer_of s = s.control.nlme.parent_timer
 
-abbrev pub with_timer : ParentTimer → State → State
-with_timer t s = with_node (fields.with_timer t s.control.nlme) s
-
--- an answer with another state in place of its own
-abbrev pub with_state : State → Answer → Answer
-with_state s a = record { state = s; reset = a.reset; note = a.note; step = a.step; polls_used = a.polls_used }
+abbrev pub with_parent_timer : ParentTimer → State → State
+with_parent_timer t s = with_node (with_timer t s.control.nlme) s
 
 -- turned down by 5: state and record stay as handed in
 abbrev pub lent_turned_down : ParentTimer → State → LentTicked
@@ -30,4 +26,4 @@ with_record a = record { timer = timer_of a.state; answer = a }
 
 -- a tick of the state with the lent record in place of its own
 unfoldable pub lent_tick : ParentTimer → ℕ → State → LentTicked
-lent_tick t ms s = cond (bad s) (lent_turned_down t s) (with_record (answer (with_timer t s) (elapsed ms)))
+lent_tick t ms s = cond (bad s) (lent_turned_down t s) (with_record (answer (with_parent_timer t s) (elapsed ms)))

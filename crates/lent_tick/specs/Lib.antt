@@ -1,3 +1,4 @@
 -- The definitions of `lent_tick`.
 pub mod LentTick
 pub mod OwnRecord
+pub mod Private

@@ -2,7 +2,8 @@
 #![tactic(auto)]
 
 ghost use Rattle.std.specs.Prelude.{◌≡◌};
-ghost use Rattle.lent_tick.specs.LentTick.{with_timer, with_state, with_record, lent_tick};
+ghost use Rattle.lent_tick.specs.LentTick.{with_parent_timer, with_record, lent_tick};
+ghost use Rattle.lent_tick.specs.Private.{with_state};
 
 use node::{Answer, State};
 use operation::Step;
@@ -17,15 +18,15 @@ pub struct LentTicked {
     pub answer: Answer,
 }
 
-fn with_timer(mut state: State, timer: ParentTimer) -> State
-    ensures { result ≡ with_timer timer state }
+fn with_parent_timer(mut state: State, timer: ParentTimer) -> State
+    ensures { result ≡ with_parent_timer timer state }
 {
     state.control.nlme.parent_timer = timer;
     state
 }
 
 // A tick that was turned down: the state as handed in, and the record as it was lent.
-fn turned_down(timer: ParentTimer, state: State, refused: Answer) -> LentTicked
+fn turned_down(state: State, timer: ParentTimer, refused: Answer) -> LentTicked
     ensures { result ≡ record { timer = timer; answer = with_state state refused } }
 {
     LentTicked {
@@ -48,18 +49,18 @@ fn with_record(answer: Answer) -> LentTicked
 pub fn tick_with(timer: ParentTimer, state: State, elapsed_ms: u32) -> LentTicked
     ensures { result ≡ lent_tick timer elapsed_ms state }
 {
-    let lent = with_timer(state, timer);
+    let lent = with_parent_timer(state, timer);
     let answer = lent.tick_parent_timeout(elapsed_ms);
     match answer.step {
-        Step::Refused(_) => turned_down(timer, state, answer),
+        Step::Refused(_) => turned_down(state, timer, answer),
         _ => with_record(answer),
     }
 }
 
 // The timer interrupt lends its record and finds it updated there. The lent record counts in place of the state's own, which is not looked at: so whoever keeps
 // a record of his own loads it anew from `state.control.nlme.parent_timer` after every call that may set the timer: `join`, `transmission_over`,
-// `reception_over` and `refresh_parent_timeout`. A join zeroes only the state's own: an old record would count on, and signal a failure that is none. A tick is a
-// call as any other: it may come between any two calls, also while an operation is under way, and not while another call on the state is still running.
+// `reception_over` and `refresh_parent_timeout`. A join zeroes only the state's own: an old record would count on, and signal a failure that is none. A tick is
+// a call as any other: it may come between any two calls, also while an operation is under way, and not while another call on the state is still running.
 pub fn tick_lent(timer: &mut ParentTimer, state: State, elapsed_ms: u32) -> Answer
     ensures { (result ≡ (lent_tick timer.old elapsed_ms state).answer) × (timer.new ≡ (lent_tick timer.old elapsed_ms state).timer) }
 {

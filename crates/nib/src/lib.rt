@@ -265,21 +265,21 @@ impl NeighborTable {
     }
 
     // How many entries are in use: 16 where the count says more.
-    pub fn len(self) -> u8
-        ensures { result ≡ length (entries_of self) }
+    pub fn len(&self) -> u8
+        ensures { result ≡ length (entries_of self.now) }
     {
         self.used().len() as u8
     }
 
     // The entry at an index, or that the index is past the table.
-    pub fn get(self, index: u8) -> Option<NwkNeighbor>
-        ensures { result ≡ entry_at (entries_of self) index }
+    pub fn get(&self, index: u8) -> Option<NwkNeighbor>
+        ensures { result ≡ entry_at (entries_of self.now) index }
     {
         self.used().get(index as usize).copied()
     }
 
-    // One entry more at the end, or none where the table is full: written in place, as a table is large to hand over. `TransmitFailures` has the like for its pairs:
-    // one for both would be handed the array and the count, and be no shorter.
+    // One entry more at the end, or none where the table is full: written in place, as a table is large to hand over. `TransmitFailures` has the like for its
+    // pairs: one for both would be handed the array and the count, and be no shorter.
     #[tactic(auto, unfolding(crate::specs::Neighbors::pushed))]
     pub fn add(&mut self, e: NwkNeighbor)
         ensures { self.new ≡ pushed self.old e }

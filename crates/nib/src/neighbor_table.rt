@@ -20,8 +20,8 @@ fn parent_place(used: &[NwkNeighbor]) -> Option<usize>
 
 // The index of the parent, the first entry with relationship PARENT, or the number of entries where there is none.
 // A number and no `Option`: at the number of entries nothing is found and nothing is changed, so no caller tests which of the two it is.
-pub fn parent_index(table: NeighborTable) -> u8
-    ensures { result ≡ first_index is_parent (entries_of table) }
+pub fn parent_index(table: &NeighborTable) -> u8
+    ensures { result ≡ first_index is_parent (entries_of table.now) }
 {
     let used = table.used();
     parent_place(used).unwrap_or(used.len()) as u8
@@ -50,8 +50,8 @@ pub fn known_ieee(neighbor: Option<NwkNeighbor>) -> Option<IeeeAddress>
 }
 
 // The IEEE address that is known of a short address.
-pub fn neighbor_ieee_address(table: NeighborTable, address: ShortAddress) -> Option<IeeeAddress>
-    ensures { result ≡ ieee_of address.0 (entries_of table) }
+pub fn neighbor_ieee_address(table: &NeighborTable, address: ShortAddress) -> Option<IeeeAddress>
+    ensures { result ≡ ieee_of address.0 (entries_of table.now) }
 {
     known_ieee(first_with(table.used(), address).copied())
 }
@@ -64,8 +64,8 @@ fn ieee_number(neighbor: Option<NwkNeighbor>) -> IeeeAddress
 }
 
 // The entry at an index as commands are addressed to it: with the IEEE address of the first entry with its short address.
-pub fn seen_at(table: NeighborTable, index: u8) -> Option<NwkNeighbor>
-    ensures { result ≡ seen_in (entries_of table) (entry_at (entries_of table) index) }
+pub fn seen_at(table: &NeighborTable, index: u8) -> Option<NwkNeighbor>
+    ensures { result ≡ seen_in (entries_of table.now) (entry_at (entries_of table.now) index) }
 {
     let e = table.get(index)?;
     let first = first_with(table.used(), e.network_address).copied();

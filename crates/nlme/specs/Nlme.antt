@@ -4,10 +4,10 @@ use Rattle.nib.specs.declared.Nib.{Nib}
 use Rattle.nib.specs.declared.ShortAddress.{ShortAddress}
 use Rattle.nib.specs.declared.NwkNeighbor.{NwkNeighbor}
 use Rattle.nib.specs.NeighborTable.{known_ieee}
-use Rattle.supervision.specs.Timer.{ticked}
+use Rattle.supervision.specs.Timer.{inactive_timer, ticked}
 use Rattle.supervision.specs.declared.parent_timer.Ticked.{Ticked}
 use Rattle.supervision.specs.declared.FailedSend.{FailedSend}
-use Rattle.supervision.specs.Timeouts as timeouts
+use Rattle.supervision.specs.Timeouts.{refreshed_timer}
 use Rattle.supervision.specs.Failures.{failures_of, pair_removed, transmit_failed}
 use Rattle.management.specs.Signals.{no_signals, with_status_indication}
 use Rattle.management.specs.declared.SendAnswer.{SendAnswer}
@@ -30,7 +30,7 @@ new_nlme nib seq =
       nib = nib;
       nwk_seq = seq;
       pending_timeout_request = 0xff;
-      parent_timer = record { remaining_ms = 0 };
+      parent_timer = inactive_timer;
       signals = no_signals;
       transmit_failures = failures_of [];
     }
@@ -46,11 +46,11 @@ link_failure parent n = with_signals (with_status_indication (Some (record { net
 
 -- the timer restarted at the negotiated timeout; 0 where there is none (Zigbee 3.6.10.6)
 unfoldable pub refreshed : Nlme → Nlme
-refreshed n = with_timer (timeouts.refreshed n.nib.end_device_timeout) n
+refreshed n = with_timer (refreshed_timer n.nib.end_device_timeout) n
 
 -- before a join or rejoin: parent information 0, timeout index 0xff, timer 0 (01, "Join request and confirm"; Zigbee 3.2.2.13.3)
 unfoldable pub negotiation_reset : Nlme → Nlme
-negotiation_reset n = with_timer (record { remaining_ms = 0 }) (with_nib (with_negotiated 0 0xff n.nib) n)
+negotiation_reset n = with_timer inactive_timer (with_nib (with_negotiated 0 0xff n.nib) n)
 
 -- the header of the next command frame: own addresses, the next sequence number, and the destination's IEEE address where it is known
 -- (Zigbee 3.3.2, 3.4.6.2 and 3.4.11.2)

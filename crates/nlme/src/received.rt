@@ -262,7 +262,8 @@ fn handle_leave_command(
     }
 }
 
-// What a received frame does, after it has taught its sender's address. What is seen is two parameters, and no `Seen`: who calls would make it for this one call.
+// What a received frame does, after it has taught its sender's address. What is seen is two parameters, and no `Seen`: who calls would make it for this one
+// call.
 #[tactic(auto, unfolding(crate::specs::Received::handled))]
 pub fn process_received_nwk_frame(
     nlme: Nlme,

@@ -1,7 +1,7 @@
 -- Laws that hold `outcome` to its sentence: an outcome of a kind that is not awaited is turned down by 2. Assumes nothing.
 use mathlib.Core.Path.{◌≡◌, refl}
 use Rattle.operation.specs.Operation.{scan_for, association_for, transmission_for, reception_for}
-use Rattle.operation.specs.declared.Purpose.{Purpose}
+use Rattle.operation.specs.declared.ReceptionFor.{ReceptionFor}
 use Rattle.operation.specs.declared.ScanFor.{ScanFor}
 use Rattle.operation.specs.declared.TransmissionFor.{TransmissionFor}
 use Rattle.operation.specs.declared.Phase.{Phase}
@@ -35,7 +35,7 @@ no-transmission Association f s h = refl
 no-transmission (Transmission u) f s h = absurd (h u refl)
 no-transmission (Reception u) f s h = refl
 
-pub no-reception : (p : Phase) (f : Purpose → State → Answer) (s : State) → ((u : Purpose) → p ≡ Reception u → ⊥) → refuse NotAwaited s ≡ outcome (reception_for p) f s
+pub no-reception : (p : Phase) (f : ReceptionFor → State → Answer) (s : State) → ((u : ReceptionFor) → p ≡ Reception u → ⊥) → refuse NotAwaited s ≡ outcome (reception_for p) f s
 unfolding outcome
 no-reception Idle f s h = refl
 no-reception (Scan u) f s h = refl

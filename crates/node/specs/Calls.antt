@@ -22,7 +22,7 @@ use Rattle.nlme.specs.declared.received.Then.{Then}
 use Rattle.nlme.specs.declared.received.Handled.{Handled}
 use Rattle.operation.specs.Operation.{with_nlme, scan_for, association_for, transmission_for, reception_for, is_discovered, telling, asking, announcing_leave, ending}
 use Rattle.operation.specs.declared.TimeoutFor.{TimeoutFor}
-use Rattle.operation.specs.declared.Purpose.{Purpose}
+use Rattle.operation.specs.declared.ReceptionFor.{ReceptionFor}
 use Rattle.operation.specs.declared.ScanFor.{ScanFor}
 use Rattle.operation.specs.declared.TransmissionFor.{TransmissionFor}
 use Rattle.operation.specs.declared.Phase.{Phase}
@@ -36,7 +36,7 @@ use Rattle.exchange.specs.Exchange.{send_started, data_sent, poll_started, recei
 use Rattle.node.specs.declared.State.{State}
 use Rattle.node.specs.declared.Answer.{Answer}
 use Rattle.node.specs.declared.ScanAnswer.{ScanAnswer}
-use Rattle.node.specs.Looks.{with_control, with_table, with_candidates, entries, parent, tried, next, broadcast, finish, deciding}
+use Rattle.node.specs.Looks.{with_control, with_table, with_candidates, entries, parent, tried, next, broadcast, deciding_with, deciding}
 use Rattle.node.specs.Refusals.{refuse, bad, start, outcome}
 use Rattle.management.specs.declared.NlmeJoinStatus.{NlmeJoinStatus}
 use Rattle.neighbor_page.specs.Page.{too_short, written}
@@ -93,28 +93,28 @@ scan_heard ScanFor.Rejoin s =
     rejoin_among (with_chosen false s.control.operation.extended_pan_id.0 s.control.nlme.nib.capability_information s)
 
 -- "for a scan, 3 above 27 descriptors, then 4 above 16 short-addressed ones" (01, "When a call is turned down")
-unfoldable pub scan_over : Result PanDescriptorList MacError → ScanFor → State → Answer
-scan_over (Err e) u s = scan_failed u s
-scan_over (Ok l) u s =
+unfoldable pub scan_decided : Result PanDescriptorList MacError → ScanFor → State → Answer
+scan_decided (Err e) u s = scan_failed u s
+scan_decided (Ok l) u s =
     cond (ltb 27 l.count) (refuse TooManyDescriptors s)
     (cond (ltb 16 (short_addressed (descriptors_of l))) (refuse TooManyShortAddressed s) (scan_heard u (with_scan (descriptors_of l) s)))
 
 -- The outcome of an association (01, "Join request and confirm")
 
-abbrev pub association_over : Result AssociationResponse MacError → Unit {0} → State → Answer
-association_over o u s = deciding s (associated o (tried s) (next s) s.control)
+abbrev pub association_decided : Result AssociationResponse MacError → Unit {0} → State → Answer
+association_decided o u s = deciding s (associated o (tried s) (next s) s.control)
 
 -- The outcome of a poll or a receive (01, "Received frame"; Zigbee 3.6.6)
 
 -- what it was for goes on: a single poll or receive answers; a rejoin, a negotiation or a keepalive polls on
-unfoldable pub continuing : Purpose → PollAnswer → Option NwkNeighbor → Option NwkNeighbor → Control → Decision
-continuing Purpose.RejoinResponse a parent next c = try_goes_on parent next c
-continuing Purpose.SinglePoll a parent next c = poll_over a c
-continuing Purpose.SingleReceive a parent next c = poll_over a c
-continuing (Purpose.TimeoutResponse u) a parent next c = timeout_goes_on u parent c
+unfoldable pub continuing : ReceptionFor → PollAnswer → Option NwkNeighbor → Option NwkNeighbor → Control → Decision
+continuing ReceptionFor.RejoinResponse a parent next c = try_goes_on parent next c
+continuing ReceptionFor.SinglePoll a parent next c = poll_over a c
+continuing ReceptionFor.SingleReceive a parent next c = poll_over a c
+continuing (ReceptionFor.TimeoutResponse u) a parent next c = timeout_goes_on u parent c
 
-abbrev pub go_on : Bool → Purpose → PollAnswer → State → Answer
-go_on reset u a s = finish reset s (continuing u a (parent s) (next s) s.control)
+abbrev pub go_on : Bool → ReceptionFor → PollAnswer → State → Answer
+go_on reset u a s = deciding_with reset s (continuing u a (parent s) (next s) s.control)
 
 abbrev pub with_node : Nlme → State → State
 with_node n s = with_control (with_nlme n s.control) s
@@ -125,23 +125,23 @@ table_changed None s = s
 table_changed (Some a) s = with_table (table_of (retained a.0 (entries s))) s
 
 -- a frame is dealt with: the poll goes on, or a leave is announced first
-unfoldable pub after : Purpose → Then → State → Answer
-after u (Then.Over a) s = go_on false u a s
-after u (Then.Announce a) s = deciding s (announcing_leave u a s.control)
+unfoldable pub after_frame : ReceptionFor → Then → State → Answer
+after_frame u (Then.Over a) s = go_on false u a s
+after_frame u (Then.Announce a) s = deciding s (announcing_leave u a s.control)
 
-abbrev pub handled_on : Purpose → Handled → State → Answer
-handled_on u h s = after u h.then (table_changed h.removed (with_node h.nlme s))
+abbrev pub handled_on : ReceptionFor → Handled → State → Answer
+handled_on u h s = after_frame u h.then (table_changed h.removed (with_node h.nlme s))
 
 abbrev pub taught_on : ReceivedFrame → State → State
 taught_on f s = with_table (on_entries (taught f) s.table) s
 
-abbrev pub processed : Purpose → ReceivedFrame → State → Answer
+abbrev pub processed : ReceptionFor → ReceivedFrame → State → Answer
 processed u f s = handled_on u (handled (parent s) (broadcast s) f s.control.nlme) s
 
-unfoldable pub reception_over : Result (Option ReceivedFrame) MacError → Purpose → State → Answer
-reception_over (Ok None) u s = go_on false u (no_data u) s
-reception_over (Err e) u s = go_on false u PollAnswer.PollMacError s
-reception_over (Ok (Some f)) u s = processed u f (taught_on f s)
+unfoldable pub reception_decided : Result (Option ReceivedFrame) MacError → ReceptionFor → State → Answer
+reception_decided (Ok None) u s = go_on false u (no_data u) s
+reception_decided (Err e) u s = go_on false u PollAnswer.PollMacError s
+reception_decided (Ok (Some f)) u s = processed u f (taught_on f s)
 
 -- The outcome of a transmission (01, "Received frame", "Supervision record")
 
@@ -151,11 +151,11 @@ after_leave true s = with_node (leave_announced true s.control.nlme) s
 after_leave false s = with_table (table_of []) (with_node (leave_announced false s.control.nlme) s)
 
 -- a leave announced without the rejoin bit has the reset note: what lies outside this part is reset
-unfoldable pub transmission_over : Bool → TransmissionFor → State → Answer
-transmission_over ok TransmissionFor.RejoinRequest s = deciding s (request_sent ok (parent s) (next s) s.control)
-transmission_over ok TransmissionFor.Data s = deciding s (data_sent ok (parent s) s.control)
-transmission_over ok (TransmissionFor.TimeoutRequest u) s = deciding s (timeout_request_sent u ok (parent s) s.control)
-transmission_over ok (TransmissionFor.Leave l) s = go_on (not l.rejoin) l.purpose PollAnswer.PollNothing (after_leave l.rejoin s)
+unfoldable pub transmission_decided : Bool → TransmissionFor → State → Answer
+transmission_decided ok TransmissionFor.RejoinRequest s = deciding s (request_sent ok (parent s) (next s) s.control)
+transmission_decided ok TransmissionFor.Data s = deciding s (data_sent ok (parent s) s.control)
+transmission_decided ok (TransmissionFor.TimeoutRequest u) s = deciding s (timeout_request_sent u ok (parent s) s.control)
+transmission_decided ok (TransmissionFor.Leave l) s = go_on (not l.rejoin) l.purpose PollAnswer.PollNothing (after_leave l.rejoin s)
 
 -- Every call
 
@@ -183,10 +183,10 @@ made s (send destination secure) = start (deciding s (send_started destination s
 made s poll = start (deciding s (poll_started (parent s) s.control)) s
 made s receive = start (deciding s (receive_started s.control)) s
 made s (timeout u) = start (deciding s (timeout_started u (parent s) s.control)) s
-made s (scan o) = outcome (scan_for s.control.operation.phase) (scan_over o) s
-made s (association o) = outcome (association_for s.control.operation.phase) (association_over o) s
-made s (transmission ok) = outcome (transmission_for s.control.operation.phase) (transmission_over ok) s
-made s (reception o) = outcome (reception_for s.control.operation.phase) (reception_over o) s
+made s (scan o) = outcome (scan_for s.control.operation.phase) (scan_decided o) s
+made s (association o) = outcome (association_for s.control.operation.phase) (association_decided o) s
+made s (transmission ok) = outcome (transmission_for s.control.operation.phase) (transmission_decided ok) s
+made s (reception o) = outcome (reception_for s.control.operation.phase) (reception_decided o) s
 made s (elapsed ms) = deciding s (tick_told (nlme_ticked (parent s) ms s.control.nlme) s.control)
 made s take_leave = deciding s (leave_taken s.control)
 made s take_status = deciding s (status_taken s.control)

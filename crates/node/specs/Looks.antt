@@ -15,13 +15,13 @@ use Rattle.node.specs.declared.Answer.{Answer}
 use Rattle.nib.specs.declared.IeeeAddress.{IeeeAddress}
 
 abbrev pub with_control : Control → State → State
-with_control c s = record { control = c; table = s.table; candidates = s.candidates }
+with_control c s = record s { control = c }
 
 abbrev pub with_table : NeighborTable → State → State
-with_table t s = record { control = s.control; table = t; candidates = s.candidates }
+with_table t s = record s { table = t }
 
 abbrev pub with_candidates : Candidates → State → State
-with_candidates c s = record { control = s.control; table = s.table; candidates = c }
+with_candidates c s = record s { candidates = c }
 
 abbrev pub entries : State → List NwkNeighbor
 entries s = entries_of s.table
@@ -58,9 +58,9 @@ abbrev pub answered : Bool → State → Decision → Answer
 answered reset s d =
     record { state = with_control d.control s; reset = reset; note = d.note; step = d.step; polls_used = d.polls_used }
 
-unfoldable pub finish : Bool → State → Decision → Answer
-finish reset s d = answered reset (moved d.candidate (potential_cleared d.clear_potential_parent s)) d
+unfoldable pub deciding_with : Bool → State → Decision → Answer
+deciding_with reset s d = answered reset (moved d.candidate (potential_cleared d.clear_potential_parent s)) d
 
 -- a decision with no reset note
 abbrev pub deciding : State → Decision → Answer
-deciding s d = finish false s d
+deciding s d = deciding_with false s d

@@ -24,7 +24,7 @@ ghost use Rattle.node.specs.Beginning.{new_state};
 ghost use Rattle.node.specs.Looks.{parent, tried, next, deciding};
 ghost use Rattle.node.specs.Refusals.{refuse, past_in, bad_by, bad};
 ghost use Rattle.node.specs.Private.{refusal, start_refusal};
-ghost use Rattle.node.specs.Calls.{join_by, associate, with_chosen, rejoin_among, scan_failed, scan_heard, scan_over, confirm_by, scanned, continuing, go_on, table_changed, after, handled_on, taught_on, processed, after_leave, reception_over, transmission_over, answer, choose, refresh, page_answer, page_left, discovery, join, send, poll, receive, timeout, scan, association, transmission, reception, elapsed, take_leave, take_status};
+ghost use Rattle.node.specs.Calls.{join_by, associate, with_chosen, rejoin_among, scan_failed, scan_heard, scan_decided, confirm_by, scanned, continuing, go_on, table_changed, after_frame, handled_on, taught_on, processed, after_leave, reception_decided, transmission_decided, answer, choose, refresh, page_answer, page_left, discovery, join, send, poll, receive, timeout, scan, association, transmission, reception, elapsed, take_leave, take_status};
 
 use candidates::tries::Candidates;
 use candidates::{CandidateList, tries};
@@ -43,7 +43,7 @@ use nib::{
 use nlme::received::{Handled, Then};
 use nlme::{Nlme, received};
 use operation::{
-    Control, Decision, Leaving, Move, Note, Operation, Phase, Purpose, Refusal, ScanFor, Step,
+    Control, Decision, Leaving, Move, Note, Operation, Phase, ReceptionFor, Refusal, ScanFor, Step,
     TimeoutFor, TransmissionFor,
 };
 use supervision::KeepaliveMethod;
@@ -92,7 +92,7 @@ fn is_past(phase: Phase, neighbors: u8, candidates: Candidates) -> bool
     ensures { result ≡ past_in (association_for phase) neighbors candidates }
 {
     match phase {
-        Phase::Association => tries::past_table(neighbors, candidates),
+        Phase::Association => tries::past_table(candidates, neighbors),
         Phase::Idle | Phase::Scan(_) | Phase::Transmission(_) | Phase::Reception(_) => false,
     }
 }
@@ -111,9 +111,9 @@ fn is_bad_by(neighbors: u8, failures: u8, candidates: Candidates, operation: Ope
 
 // The beginning.
 impl State {
-    // A node before its first call: no neighbours, no operation under way. `Nib::new` gives a blank information base. Whoever kept the attributes over a restart
-    // hands those in, and puts the neighbour table that he kept back into `table`: without it the node has no parent. The sequence number is the last one used;
-    // a node that has none draws it at random.
+    // A node before its first call: no neighbours, no operation under way. `Nib::new` gives a blank information base. Whoever kept the attributes over a
+    // restart hands those in, and puts the neighbour table that he kept back into `table`: without it the node has no parent. The sequence number is the last
+    // one used; a node that has none draws it at random.
     #[tactic(auto, unfolding(crate::specs::Beginning::new_state))]
     pub fn new(nib: Nib, nwk_seq: u8) -> State
         ensures { result ≡ new_state nib nwk_seq }
@@ -146,8 +146,8 @@ impl State {
     }
 
     #[tactic(auto, unfolding(crate::specs::Refusals::bad))]
-    fn is_bad(self) -> bool
-        ensures { result ≡ bad self }
+    fn is_bad(&self) -> bool
+        ensures { result ≡ bad self.now }
     {
         is_bad_by(
             self.table.count,
@@ -158,15 +158,15 @@ impl State {
     }
 
     // The refusal of a call that may come at any time: 5, or none.
-    fn refusal(self) -> Option<Refusal>
-        ensures { result ≡ refusal self }
+    fn refusal(&self) -> Option<Refusal>
+        ensures { result ≡ refusal self.now }
     {
         self.is_bad().then_some(Refusal::BadState)
     }
 
     // The refusal of a start: 5, then 1 if an operation is under way, or none.
-    fn start_refusal(self) -> Option<Refusal>
-        ensures { result ≡ start_refusal self }
+    fn start_refusal(&self) -> Option<Refusal>
+        ensures { result ≡ start_refusal self.now }
     {
         let is_under_way = !operation::is_idle(self.control.operation.phase);
         self.refusal()
@@ -174,28 +174,28 @@ impl State {
     }
 
     // A call's refusal, where it has one, or else the answer that is made.
-    fn unless<F: FnOnce() -> Answer>(self, refusal: Option<Refusal>, make: F) -> Answer
+    fn unless<F: FnOnce() -> Answer>(&self, refusal: Option<Refusal>, make: F) -> Answer
         requires { F.IsAlwaysCallable make }
-        ensures { MatchOption refusal (F.post make result) (λ k. result ≡ refuse k self) }
+        ensures { MatchOption refusal (F.post make result) (λ k. result ≡ refuse k self.now) }
     {
         match refusal {
-            Some(refusal) => self.refuse(refusal),
+            Some(refusal) => (*self).refuse(refusal),
             None => make(),
         }
     }
 
     // Refusal 5, or else the answer that is made.
-    fn unless_bad<F: FnOnce() -> Answer>(self, make: F) -> Answer
+    fn unless_bad<F: FnOnce() -> Answer>(&self, make: F) -> Answer
         requires { F.IsAlwaysCallable make }
-        ensures { MatchOption (refusal self) (F.post make result) (λ k. result ≡ refuse k self) }
+        ensures { MatchOption (refusal self.now) (F.post make result) (λ k. result ≡ refuse k self.now) }
     {
         self.unless(self.refusal(), make)
     }
 
     // A start's refusal, where it has one, or else the answer that is made.
-    fn start<F: FnOnce() -> Answer>(self, make: F) -> Answer
+    fn start<F: FnOnce() -> Answer>(&self, make: F) -> Answer
         requires { F.IsAlwaysCallable make }
-        ensures { MatchOption (start_refusal self) (F.post make result) (λ k. result ≡ refuse k self) }
+        ensures { MatchOption (start_refusal self.now) (F.post make result) (λ k. result ≡ refuse k self.now) }
     {
         self.unless(self.start_refusal(), make)
     }
@@ -205,27 +205,27 @@ impl State {
 // index, and be `seen_at`.
 impl State {
     #[tactic(auto, unfolding(candidates::specs::Tries::parent_in, nib::specs::NeighborTable::parent_of))]
-    fn parent(self) -> Option<NwkNeighbor>
-        ensures { result ≡ parent self }
+    fn parent(&self) -> Option<NwkNeighbor>
+        ensures { result ≡ parent self.now }
     {
-        let index = neighbor_table::parent_index(self.table);
-        neighbor_table::seen_at(self.table, index)
+        let index = neighbor_table::parent_index(&self.table);
+        neighbor_table::seen_at(&self.table, index)
     }
 
     #[tactic(auto, unfolding(candidates::specs::Tries::tried_in))]
-    fn tried(self) -> Option<NwkNeighbor>
-        ensures { result ≡ tried self }
+    fn tried(&self) -> Option<NwkNeighbor>
+        ensures { result ≡ tried self.now }
     {
-        let index = tries::tried_index(self.table.len(), self.candidates);
-        neighbor_table::seen_at(self.table, index)
+        let index = tries::tried_index(self.candidates, self.table.len());
+        neighbor_table::seen_at(&self.table, index)
     }
 
     #[tactic(auto, unfolding(candidates::specs::Tries::next_in))]
-    fn next(self) -> Option<NwkNeighbor>
-        ensures { result ≡ next self }
+    fn next(&self) -> Option<NwkNeighbor>
+        ensures { result ≡ next self.now }
     {
-        let index = tries::next_index(self.table.len(), self.candidates);
-        neighbor_table::seen_at(self.table, index)
+        let index = tries::next_index(self.candidates, self.table.len());
+        neighbor_table::seen_at(&self.table, index)
     }
 }
 
@@ -237,21 +237,21 @@ impl State {
     {
         let count = self.table.len();
         if decision.clear_potential_parent {
-            let index = tries::tried_index(count, self.candidates);
+            let index = tries::tried_index(self.candidates, count);
             self.table = neighbor_table::clear_potential_parent(self.table, index);
         }
         match decision.candidate {
             Move::Stay => {}
             Move::TakeNext => {
-                self.candidates = tries::take_next(count, self.candidates);
+                self.candidates = tries::take_next(self.candidates, count);
             }
             Move::AdoptNext => {
-                let index = tries::next_index(count, self.candidates);
+                let index = tries::next_index(self.candidates, count);
                 self.table = neighbor_table::adopt_parent(self.table, index);
-                self.candidates = tries::take_next(count, self.candidates);
+                self.candidates = tries::take_next(self.candidates, count);
             }
             Move::JoinTried => {
-                let index = tries::tried_index(count, self.candidates);
+                let index = tries::tried_index(self.candidates, count);
                 self.table = neighbor_table::mark_parent(self.table, index);
                 self.table = neighbor_table::clear_beacon_fields(self.table);
             }
@@ -293,12 +293,12 @@ impl State {
             return self.fail_join(NlmeJoinStatus::InvalidRequest);
         }
         let require_permit_joining = true;
-        self.candidates = tries::chosen(
+        self.candidates = tries::chosen_from(
             self.table,
             self.control.nlme.nib.stack_profile,
-            require_permit_joining,
             request.extended_pan_id,
             request.capability_information,
+            require_permit_joining,
         );
         let next = self.next();
         let decision = association::start_join(self.control, request.capability_information, next);
@@ -397,12 +397,12 @@ impl State {
         ensures { result ≡ rejoin_among (with_chosen false self.control.operation.extended_pan_id.0 self.control.nlme.nib.capability_information self) }
     {
         let require_permit_joining = false;
-        self.candidates = tries::chosen(
+        self.candidates = tries::chosen_from(
             self.table,
             self.control.nlme.nib.stack_profile,
-            require_permit_joining,
             self.control.operation.extended_pan_id,
             self.control.nlme.nib.capability_information,
+            require_permit_joining,
         );
         let next = self.next();
         self.decided_on(rejoin::try_next(self.control, NlmeJoinStatus::NotPermitted, next))
@@ -430,13 +430,13 @@ impl State {
     }
 
     // A scan that has failed, or its list; one that is too long is turned down.
-    #[tactic(auto, unfolding(crate::specs::Calls::scan_over))]
-    fn scan_listed(
+    #[tactic(auto, unfolding(crate::specs::Calls::scan_decided))]
+    fn decide_scan(
         mut self,
         purpose: ScanFor,
         outcome: Result<PanDescriptorList, MacError>,
     ) -> Answer
-        ensures { result ≡ scan_over outcome purpose self }
+        ensures { result ≡ scan_decided outcome purpose self }
     {
         let Ok(list) = outcome else {
             return self.scan_failed(purpose);
@@ -455,12 +455,13 @@ impl State {
     fn scan_answer(self, outcome: Result<PanDescriptorList, MacError>) -> Answer
         ensures { result ≡ answer self (scan outcome) }
     {
-        // The other three outcomes have this shape too: each takes what is awaited out of its own variant of `Phase`, and a pattern can't be handed to a function.
+        // The other three outcomes have this shape too: each takes what is awaited out of its own variant of `Phase`, and a pattern can't be handed to a
+        // function.
         self.unless_bad(|| {
             let Phase::Scan(purpose) = self.control.operation.phase else {
                 return self.refuse(Refusal::NotAwaited);
             };
-            self.scan_listed(purpose, outcome)
+            self.decide_scan(purpose, outcome)
         })
     }
 
@@ -509,7 +510,7 @@ impl State {
     }
 
     // What a poll or a receive was for goes on.
-    fn go_on(self, purpose: Purpose, answer: PollAnswer) -> Answer
+    fn go_on(self, purpose: ReceptionFor, answer: PollAnswer) -> Answer
         ensures { result ≡ go_on false purpose answer self }
     {
         let parent = self.parent();
@@ -530,9 +531,9 @@ impl State {
     }
 
     // A frame is dealt with: the poll goes on, or a leave is announced first.
-    #[tactic(auto, unfolding(crate::specs::Calls::after))]
-    fn after(self, purpose: Purpose, then: Then) -> Answer
-        ensures { result ≡ after purpose then self }
+    #[tactic(auto, unfolding(crate::specs::Calls::after_frame))]
+    fn after_frame(self, purpose: ReceptionFor, then: Then) -> Answer
+        ensures { result ≡ after_frame purpose then self }
     {
         match then {
             Then::Over(answer) => self.go_on(purpose, answer),
@@ -542,39 +543,39 @@ impl State {
         }
     }
 
-    fn deal_with(mut self, purpose: Purpose, handled: Handled) -> Answer
+    fn handled_on(mut self, purpose: ReceptionFor, handled: Handled) -> Answer
         ensures { result ≡ handled_on purpose handled self }
     {
         self.control = operation::with_nlme(self.control, handled.nlme);
         self.change_table(handled.removed)
-            .after(purpose, handled.then)
+            .after_frame(purpose, handled.then)
     }
 
     // A frame is dealt with once it has taught the table.
-    fn frame_received(mut self, purpose: Purpose, frame: ReceivedFrame) -> Answer
+    fn frame_received(mut self, purpose: ReceptionFor, frame: ReceivedFrame) -> Answer
         ensures { result ≡ processed purpose frame (taught_on frame self) }
     {
         self.table = received::learn_neighbor(self.table, frame);
         let parent = self.parent();
         let everyone = nib::NWK_BROADCAST_ALL;
-        let broadcast = neighbor_table::neighbor_ieee_address(self.table, everyone);
+        let broadcast = neighbor_table::neighbor_ieee_address(&self.table, everyone);
         let handled = received::process_received_nwk_frame(
             self.control.nlme,
             parent,
             broadcast,
             frame,
         );
-        self.deal_with(purpose, handled)
+        self.handled_on(purpose, handled)
     }
 
     // By what the poll or the receive has brought.
-    #[tactic(auto, unfolding(crate::specs::Calls::reception_over))]
+    #[tactic(auto, unfolding(crate::specs::Calls::reception_decided))]
     fn decide_reception(
         self,
-        purpose: Purpose,
+        purpose: ReceptionFor,
         outcome: Result<Option<ReceivedFrame>, MacError>,
     ) -> Answer
-        ensures { result ≡ reception_over outcome purpose self }
+        ensures { result ≡ reception_decided outcome purpose self }
     {
         match outcome {
             Ok(None) => self.go_on(purpose, exchange::no_data(purpose)),
@@ -602,7 +603,7 @@ impl State {
 #[tactic(auto, unfolding(crate::specs::Calls::continuing))]
 fn continuing(
     control: Control,
-    purpose: Purpose,
+    purpose: ReceptionFor,
     answer: PollAnswer,
     parent: Option<NwkNeighbor>,
     next: Option<NwkNeighbor>,
@@ -610,9 +611,13 @@ fn continuing(
     ensures { result ≡ continuing purpose answer parent next control }
 {
     match purpose {
-        Purpose::RejoinResponse => rejoin::try_goes_on(control, parent, next),
-        Purpose::SinglePoll | Purpose::SingleReceive => exchange::end_poll(control, answer),
-        Purpose::TimeoutResponse(timeout) => negotiation::timeout_goes_on(control, timeout, parent),
+        ReceptionFor::RejoinResponse => rejoin::try_goes_on(control, parent, next),
+        ReceptionFor::SinglePoll | ReceptionFor::SingleReceive => {
+            exchange::end_poll(control, answer)
+        }
+        ReceptionFor::TimeoutResponse(timeout) => {
+            negotiation::timeout_goes_on(control, timeout, parent)
+        }
     }
 }
 
@@ -632,7 +637,7 @@ impl State {
     }
 
     // A leave is announced: what the poll was for goes on.
-    #[tactic(auto, unfolding(crate::specs::Looks::finish))]
+    #[tactic(auto, unfolding(crate::specs::Looks::deciding_with))]
     fn finish_leave(self, leaving: Leaving) -> Answer
         ensures { result ≡ go_on (not leaving.rejoin) leaving.purpose PollAnswer.PollNothing (after_leave leaving.rejoin self) }
     {
@@ -665,9 +670,9 @@ impl State {
     }
 
     // By what the transmission was for.
-    #[tactic(auto, unfolding(crate::specs::Calls::transmission_over))]
+    #[tactic(auto, unfolding(crate::specs::Calls::transmission_decided))]
     fn decide_transmission(self, purpose: TransmissionFor, sent: bool) -> Answer
-        ensures { result ≡ transmission_over sent purpose self }
+        ensures { result ≡ transmission_decided sent purpose self }
     {
         match purpose {
             TransmissionFor::RejoinRequest => self.after_rejoin_request(sent),

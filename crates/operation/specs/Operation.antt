@@ -4,7 +4,7 @@ use Rattle.std.specs.Prelude.{Option, Some, None, Result, Ok, Err, ℕ, ◌-◌,
 use Rattle.nib.specs.declared.NwkNeighbor.{NwkNeighbor}
 use Rattle.nlme.specs.declared.Nlme.{Nlme}
 use Rattle.nlme.specs.declared.received.LeaveAnnouncement.{LeaveAnnouncement}
-use Rattle.operation.specs.declared.Purpose.{Purpose}
+use Rattle.operation.specs.declared.ReceptionFor.{ReceptionFor}
 use Rattle.operation.specs.declared.ScanFor.{ScanFor}
 use Rattle.operation.specs.declared.TransmissionFor.{TransmissionFor}
 use Rattle.operation.specs.declared.Phase.{Phase}
@@ -98,7 +98,7 @@ transmission_for Phase.Association = None
 transmission_for (Phase.Reception u) = None
 
 -- a poll or a receive
-abbrev pub reception_for : Phase → Option Purpose
+abbrev pub reception_for : Phase → Option ReceptionFor
 reception_for (Phase.Reception u) = Some u
 reception_for Phase.Idle = None
 reception_for (Phase.Scan u) = None
@@ -118,7 +118,7 @@ abbrev pub asking : Phase → RadioRequest → Control → Decision
 asking p r c = telling (Step.Ask r) (in_phase p c)
 
 -- the announcement of a leave that a poll has brought: what the poll was for goes on afterwards
-abbrev pub announcing_leave : Purpose → LeaveAnnouncement → Control → Decision
+abbrev pub announcing_leave : ReceptionFor → LeaveAnnouncement → Control → Decision
 announcing_leave u a c =
     asking (Phase.Transmission (TransmissionFor.Leave (record { purpose = u; rejoin = a.rejoin }))) (RadioRequest.Transmit a.transmission) c
 
@@ -128,7 +128,7 @@ ending s c = telling s (in_phase Phase.Idle c)
 
 -- a poll of the parent, for a purpose (Zigbee 3.6.6). It is the only step that uses a poll
 -- (01, "Code places and language forms": "polls used .. equal the poll requests")
-abbrev pub polled : Purpose → NwkNeighbor → Control → Decision
+abbrev pub polled : ReceptionFor → NwkNeighbor → Control → Decision
 polled u p c = record (asking (Phase.Reception u) (RadioRequest.Poll c.nlme.nib.panid p.network_address) c) { polls_used = 1 }
 
 abbrev pub with_polls_left : ℕ → Control → Control
@@ -145,19 +145,19 @@ polling (Some p) c =
     (record { parent = Some p; control = with_polls_left (c.operation.polls_left - 1) c })
 
 -- the next poll, or what follows once they are over
-abbrev pub polled_or : Purpose → (Control → Decision) → Option NwkNeighbor → Control → Decision
+abbrev pub polled_or : ReceptionFor → (Control → Decision) → Option NwkNeighbor → Control → Decision
 polled_or u over None c = over c
 polled_or u over (Some p) c = polled u p c
 
-unfoldable pub poll_on : Purpose → Option NwkNeighbor → (Control → Decision) → Control → Decision
+unfoldable pub poll_on : ReceptionFor → Option NwkNeighbor → (Control → Decision) → Control → Decision
 poll_on u parent over c = polled_or u over (polling parent c).parent (polling parent c).control
 
 -- the next poll, or the control part once they are over
-abbrev pub polled_by : Purpose → Option NwkNeighbor → Control → Result Decision Control
+abbrev pub polled_by : ReceptionFor → Option NwkNeighbor → Control → Result Decision Control
 polled_by u None c = Err c
 polled_by u (Some p) c = Ok (polled u p c)
 
-unfoldable pub next_poll : Purpose → Option NwkNeighbor → Control → Result Decision Control
+unfoldable pub next_poll : ReceptionFor → Option NwkNeighbor → Control → Result Decision Control
 next_poll u parent c = polled_by u (polling parent c).parent (polling parent c).control
 
 -- a discovery is over, and has heard

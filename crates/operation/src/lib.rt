@@ -25,7 +25,7 @@ pub enum TimeoutFor {
 
 // What a received frame is awaited for.
 #[derive(Clone, Copy)]
-pub enum Purpose {
+pub enum ReceptionFor {
     // a rejoin's try: polls go on until its response, or until none is left
     RejoinResponse,
     // `poll`: it answers what came
@@ -49,7 +49,7 @@ pub enum ScanFor {
 #[derive(Clone, Copy)]
 pub struct Leaving {
     // what the poll was for, which goes on once the leave is announced
-    pub purpose: Purpose,
+    pub purpose: ReceptionFor,
     // whether the device is to rejoin; if not, it forgets its network
     pub rejoin: bool,
 }
@@ -80,7 +80,7 @@ pub enum Phase {
     // `transmission_over` is awaited
     Transmission(TransmissionFor),
     // `reception_over` is awaited
-    Reception(Purpose),
+    Reception(ReceptionFor),
 }
 
 // The operation under way: what it awaits, and what a rejoin keeps of its request and of its try.
@@ -353,7 +353,11 @@ pub fn scan(control: Control, purpose: ScanFor, range: ScanRange) -> Decision
 }
 
 // The announcement of a leave that a poll has brought. What the poll was for goes on afterwards.
-pub fn announce(control: Control, purpose: Purpose, announcement: LeaveAnnouncement) -> Decision
+pub fn announce(
+    control: Control,
+    purpose: ReceptionFor,
+    announcement: LeaveAnnouncement,
+) -> Decision
     ensures { result ≡ announcing_leave purpose announcement control }
 {
     let leaving = Leaving {
@@ -365,7 +369,7 @@ pub fn announce(control: Control, purpose: Purpose, announcement: LeaveAnnouncem
 }
 
 // A poll of the parent, for a purpose: the only step that uses a poll.
-pub fn poll_parent(control: Control, purpose: Purpose, parent: NwkNeighbor) -> Decision
+pub fn poll_parent(control: Control, purpose: ReceptionFor, parent: NwkNeighbor) -> Decision
     ensures { result ≡ polled purpose parent control }
 {
     let request = RadioRequest::Poll(control.nlme.nib.panid, parent.network_address);
@@ -401,7 +405,7 @@ fn take_poll(control: Control, parent: Option<NwkNeighbor>) -> Polling
 #[tactic(auto, unfolding(crate::specs::Operation::next_poll))]
 pub fn next_poll(
     control: Control,
-    purpose: Purpose,
+    purpose: ReceptionFor,
     parent: Option<NwkNeighbor>,
 ) -> Result<Decision, Control>
     ensures { result ≡ next_poll purpose parent control }

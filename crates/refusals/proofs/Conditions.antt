@@ -17,7 +17,7 @@ use Rattle.candidates.specs.Candidates.{items_of}
 use Rattle.candidates.specs.Tries.{past_table}
 use Rattle.candidates.specs.declared.tries.Candidates.{Candidates}
 use Rattle.operation.specs.Operation.{is_idle, scan_for, association_for, transmission_for, reception_for}
-use Rattle.operation.specs.declared.Purpose.{Purpose}
+use Rattle.operation.specs.declared.ReceptionFor.{ReceptionFor}
 use Rattle.operation.specs.declared.ScanFor.{ScanFor}
 use Rattle.operation.specs.declared.TransmissionFor.{TransmissionFor}
 use Rattle.operation.specs.declared.Phase.{Phase}
@@ -80,6 +80,7 @@ index-told (Phase.Scan u) n c = fails (λ h. differ association_for refl refl h.
 index-told (Phase.Transmission u) n c = fails (λ h. differ association_for refl refl h.0)
 index-told (Phase.Reception u) n c = fails (λ h. differ association_for refl refl h.0)
 
+-- 5: each of its six tests tells of its condition; Any is Bad as a sum
 pub bad-told : (s : State) → Tells (Bad s) (bad s)
 unfolding bad
 bad-told s =
@@ -152,7 +153,7 @@ transmission-told Phase.Association = awaits-none (λ u. differ transmission_for
 transmission-told (Phase.Transmission v) = awaits (λ h. h v refl)
 transmission-told (Phase.Reception v) = awaits-none (λ u. differ transmission_for refl refl)
 
-pub reception-told : (p : Phase) → Told ((u : Purpose) → p ≡ Phase.Reception u → ⊥) (reception_for p)
+pub reception-told : (p : Phase) → Told ((u : ReceptionFor) → p ≡ Phase.Reception u → ⊥) (reception_for p)
 reception-told Phase.Idle = awaits-none (λ u. differ reception_for refl refl)
 reception-told (Phase.Scan v) = awaits-none (λ u. differ reception_for refl refl)
 reception-told Phase.Association = awaits-none (λ u. differ reception_for refl refl)

@@ -19,7 +19,7 @@ use Rattle.nlme.specs.declared.Nlme.{Nlme}
 use Rattle.operation.specs.Operation.{polled_or, polling, poll_on}
 use Rattle.operation.specs.declared.TimeoutFor.{TimeoutFor}
 use Rattle.operation.specs.declared.Phase.{Phase}
-use Rattle.operation.specs.declared.Purpose.{Purpose}
+use Rattle.operation.specs.declared.ReceptionFor.{ReceptionFor}
 use Rattle.operation.specs.declared.TransmissionFor.{TransmissionFor}
 use Rattle.operation.specs.declared.Control.{Control}
 use Rattle.operation.specs.declared.RadioRequest.{RadioRequest}
@@ -29,7 +29,7 @@ use Rattle.operation.specs.declared.Polling.{Polling}
 use Rattle.join.specs.Join.{associating, join_started, joined_by, candidate_failed, succeeded, associated}
 use Rattle.join.specs.declared.association.AssociationResponse.{AssociationResponse}
 use Rattle.join.specs.Rejoin.{invalid, trying, scan_or_end, try_remembered, rejoin_started, try_candidate, try_next, try_failed, rejoined, responded, answered_by, request_sent}
-use Rattle.exchange.specs.Exchange.{send_started, data_sent, poll_started, poll_over, accepted, timeout_failed, timeout_started, timeout_answered_by, timeout_request_sent}
+use Rattle.exchange.specs.Exchange.{send_started, data_sent, poll_started, poll_over, timeout_accepted, timeout_failed, timeout_started, timeout_answered_by, timeout_request_sent}
 use Rattle.node.specs.Calls.{continuing}
 use Rattle.nib.specs.declared.NwkNeighbor.{NwkNeighbor}
 use Rattle.management.specs.declared.EndDeviceTimeoutResponse.{EndDeviceTimeoutResponse}
@@ -93,7 +93,7 @@ abbrev pub Made : Control → Decision → Type 0
 Made c d = Uses d.step d.polls_used × (held d.control ≡ held c) × NotLeaving d.control.operation.phase × NotTaken d.step
 
 -- the polls
-polls-made : (u : Purpose) (p : Option NwkNeighbor) (over : Control → Decision) (c : Control) → ((x : Control) → Made x (over x)) → Made c (poll_on u p over c)
+polls-made : (u : ReceptionFor) (p : Option NwkNeighbor) (over : Control → Decision) (c : Control) → ((x : Control) → Made x (over x)) → Made c (poll_on u p over c)
 unfolding polling poll_on
 polls-made u None over c h = h _
 polls-made u (Some e) over c h = by_cases (λ (x : Polling). Made c (polled_or u over x.parent x.control)) (eqb c.operation.polls_left 0) (λ _. h c) (refl, refl, tt, tt)
@@ -183,14 +183,14 @@ unfolding timeout_started timeout_requested
 timeout-made u None c = timeout_failed-made _ u _ _
 timeout-made u (Some e) c = (refl, refl, tt, tt)
 
-accepted-made : (u : TimeoutFor) (c : Control) → Made c (accepted u c)
-unfolding accepted refreshed
-accepted-made TimeoutFor.Negotiation c = (refl, refl, tt, tt)
-accepted-made TimeoutFor.Keepalive c = (refl, refl, tt, tt)
+timeout_accepted-made : (u : TimeoutFor) (c : Control) → Made c (timeout_accepted u c)
+unfolding timeout_accepted refreshed
+timeout_accepted-made TimeoutFor.Negotiation c = (refl, refl, tt, tt)
+timeout_accepted-made TimeoutFor.Keepalive c = (refl, refl, tt, tt)
 
 timeout_answered-made : (a : Option EndDeviceTimeoutResponse) (u : TimeoutFor) (p : Option NwkNeighbor) (c : Control) → Made c (timeout_answered_by a u p c)
 unfolding timeout_answered_by
-timeout_answered-made (Some r) u p c = by_cases (Made c) (eqb r.status 0) (λ _. accepted-made u _) (timeout_failed-made _ u p _)
+timeout_answered-made (Some r) u p c = by_cases (Made c) (eqb r.status 0) (λ _. timeout_accepted-made u _) (timeout_failed-made _ u p _)
 timeout_answered-made None u p c = polls-made _ p _ c (timeout_failed-made _ u p)
 
 pub timeout_sent-made : (u : TimeoutFor) (ok : Bool) (p : Option NwkNeighbor) (c : Control) → Made c (timeout_request_sent u ok p c)
@@ -199,9 +199,9 @@ timeout_sent-made u true p c = timeout_answered-made _ u p c
 timeout_sent-made u false p c = timeout_failed-made _ u p c
 
 -- what a poll was for goes on
-pub continuing-made : (u : Purpose) (a : PollAnswer) (p x : Option NwkNeighbor) (c : Control) → Made c (continuing u a p x c)
+pub continuing-made : (u : ReceptionFor) (a : PollAnswer) (p x : Option NwkNeighbor) (c : Control) → Made c (continuing u a p x c)
 unfolding continuing poll_over
-continuing-made Purpose.RejoinResponse a p x c = answered-made _ p x c
-continuing-made Purpose.SinglePoll a p x c = (refl, refl, tt, tt)
-continuing-made Purpose.SingleReceive a p x c = (refl, refl, tt, tt)
-continuing-made (Purpose.TimeoutResponse u) a p x c = timeout_answered-made _ u p c
+continuing-made ReceptionFor.RejoinResponse a p x c = answered-made _ p x c
+continuing-made ReceptionFor.SinglePoll a p x c = (refl, refl, tt, tt)
+continuing-made ReceptionFor.SingleReceive a p x c = (refl, refl, tt, tt)
+continuing-made (ReceptionFor.TimeoutResponse u) a p x c = timeout_answered-made _ u p c

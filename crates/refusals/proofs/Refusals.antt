@@ -17,7 +17,7 @@ use Rattle.management.specs.declared.PollAnswer.{PollAnswer}
 use Rattle.nlme.specs.declared.received.Then.{Then}
 use Rattle.supervision.specs.declared.parent_timer.ParentTimer.{ParentTimer}
 use Rattle.operation.specs.Operation.{refusal_number, telling, scan_for, association_for, transmission_for, reception_for}
-use Rattle.operation.specs.declared.Purpose.{Purpose}
+use Rattle.operation.specs.declared.ReceptionFor.{ReceptionFor}
 use Rattle.operation.specs.declared.ScanFor.{ScanFor}
 use Rattle.operation.specs.declared.TransmissionFor.{TransmissionFor}
 use Rattle.operation.specs.declared.Phase.{Phase}
@@ -25,14 +25,14 @@ use Rattle.operation.specs.declared.Step.{Step}
 use Rattle.operation.specs.declared.Decision.{Decision}
 use Rattle.exchange.specs.Exchange.{receive_started}
 use Rattle.neighbor_page.specs.Page.{too_short, written}
-use Rattle.node.specs.Looks.{potential_cleared, moved, finish, deciding}
+use Rattle.node.specs.Looks.{potential_cleared, moved, deciding_with, deciding}
 use Rattle.node.specs.Refusals.{refuse, bad, start, outcome}
-use Rattle.node.specs.Calls.{associate, join_by, scan_failed, with_scan, scan_heard, scan_over, go_on, after, reception_over, after_leave, transmission_over, Call, discovery, join, send, poll, receive, timeout, scan, association, transmission, reception, elapsed, take_leave, take_status, made, answer, confirm_by, scanned, choose, refresh, page_answer, page_left}
+use Rattle.node.specs.Calls.{associate, join_by, scan_failed, with_scan, scan_heard, scan_decided, go_on, after_frame, reception_decided, after_leave, transmission_decided, Call, discovery, join, send, poll, receive, timeout, scan, association, transmission, reception, elapsed, take_leave, take_status, made, answer, confirm_by, scanned, choose, refresh, page_answer, page_left}
 use Rattle.node.specs.declared.State.{State}
 use Rattle.node.specs.declared.Answer.{Answer}
-use Rattle.lent_tick.specs.LentTick.{with_timer, lent_turned_down, with_record, lent_tick}
+use Rattle.lent_tick.specs.LentTick.{with_parent_timer, lent_turned_down, with_record, lent_tick}
 use Rattle.lent_tick.specs.declared.LentTicked.{LentTicked}
-use Rattle.refusals.specs.Statement.{phase, Bad, UnderWay, Above27, Above16, numbers, First, TurnedDown, Answered, Unchosen, Demand1}
+use Rattle.refusals.specs.Statement.{phase, Bad, UnderWay, Above27, Above16, numbers, First, TurnedDown, RefusedBy, Unchosen, Demand1}
 use Rattle.refusals.proofs.Conditions.{Tells, holds, fails, Told, awaits, awaits-none, same-told, above-told, bad-told, idle-told, scan-told, association-told, transmission-told, reception-told, shorts-are}
 use Rattle.refusals.proofs.Decisions.{Uses, join-made, associated-made, rejoin-made, next-made, request-made, send-made, sent-made, poll_started-made, timeout-made, timeout_sent-made, continuing-made}
 use Rattle.discovery.specs.declared.mlme.MacError.{MacError}
@@ -70,8 +70,8 @@ start-made s a h = go (idle-told (phase s))
     go (holds i) = passed (λ (n : UnderWay s). n i) (done h)
     go (fails i) = turned OperationUnderWay refl i refl
 
-carried : (reset : Bool) (s : State) (d : Decision) → Uses d.step d.polls_used → Done (finish reset s d)
-unfolding finish
+carried : (reset : Bool) (s : State) (d : Decision) → Uses d.step d.polls_used → Done (deciding_with reset s d)
+unfolding deciding_with
 carried reset s d h = h
 
 -- STARTS
@@ -100,8 +100,8 @@ unfolding scan_heard
 scan_heard-made ScanFor.Discovery s = carried false s _ refl
 scan_heard-made ScanFor.Rejoin s = carried false _ _ (next-made _ _ _).0
 
-scan-made : (o : Result PanDescriptorList MacError) (s : State) (u : ScanFor) → Gets s (scan_over o u s) ((3, Above27 o) ∷ (4, Above16 o) ∷ [])
-unfolding scan_over
+scan-made : (o : Result PanDescriptorList MacError) (s : State) (u : ScanFor) → Gets s (scan_decided o u s) ((3, Above27 o) ∷ (4, Above16 o) ∷ [])
+unfolding scan_decided
 scan-made (Err e) s u = passed (λ (h : ⊥). h) (passed (λ (h : ⊥). h) (done (scan_failed-made u s)))
 scan-made (Ok l) s u =
     tested TooManyDescriptors refl (above-told 27 l.count)
@@ -110,23 +110,23 @@ scan-made (Ok l) s u =
     (done (scan_heard-made u _)))
 
 -- a poll or a receive
-go_on-made : (reset : Bool) (u : Purpose) (a : PollAnswer) (s : State) → Done (go_on reset u a s)
+go_on-made : (reset : Bool) (u : ReceptionFor) (a : PollAnswer) (s : State) → Done (go_on reset u a s)
 go_on-made reset u a s = carried reset s _ (continuing-made u a _ _ _).0
 
-after-made : (u : Purpose) (t : Then) (s : State) → Done (after u t s)
-unfolding after
+after-made : (u : ReceptionFor) (t : Then) (s : State) → Done (after_frame u t s)
+unfolding after_frame
 after-made u (Then.Over a) s = go_on-made false u a s
 after-made u (Then.Announce a) s = carried false s _ refl
 
-reception-made : (o : Result (Option ReceivedFrame) MacError) (s : State) (u : Purpose) → Done (reception_over o u s)
-unfolding reception_over
+reception-made : (o : Result (Option ReceivedFrame) MacError) (s : State) (u : ReceptionFor) → Done (reception_decided o u s)
+unfolding reception_decided
 reception-made (Ok None) s u = go_on-made false u _ s
 reception-made (Err e) s u = go_on-made false u _ s
 reception-made (Ok (Some f)) s u = after-made u _ _
 
 -- a transmission
-transmission-made : (ok : Bool) (s : State) (u : TransmissionFor) → Done (transmission_over ok u s)
-unfolding transmission_over
+transmission-made : (ok : Bool) (s : State) (u : TransmissionFor) → Done (transmission_decided ok u s)
+unfolding transmission_decided
 transmission-made ok s TransmissionFor.RejoinRequest = carried false s _ (request-made ok _ _ _).0
 transmission-made ok s TransmissionFor.Data = carried false s _ (sent-made ok _ _).0
 transmission-made ok s (TransmissionFor.TimeoutRequest u) = carried false s _ (timeout_sent-made u ok _ _).0
@@ -155,9 +155,9 @@ unfolding lent_tick answer bad
 lent-made t ms s = go (bad-told s)
   where
     go : {b : Bool} → Tells (Bad s) b
-        → Gets s (cond b (lent_turned_down t s) (with_record (cond b (refuse BadState (with_timer t s)) (made (with_timer t s) (elapsed ms))))).answer ((5, Bad s) ∷ [])
+        → Gets s (cond b (lent_turned_down t s) (with_record (cond b (refuse BadState (with_parent_timer t s)) (made (with_parent_timer t s) (elapsed ms))))).answer ((5, Bad s) ∷ [])
     go (holds h) = turned BadState refl h refl
-    go (fails h) = passed h (done (carried false (with_timer t s) _ refl))
+    go (fails h) = passed h (done (carried false (with_parent_timer t s) _ refl))
 
 pub refresh-made : (s : State) → Gets s (refresh s) ((5, Bad s) ∷ [])
 unfolding refresh
@@ -178,7 +178,7 @@ page-kept b s h = go (bad-told s) (above-told (length b) 816) _
     go (fails p) (fails q) x = absurd (⊎_elim p q h)
 
 page-reads : (n : ℕ) (s : State) → (page_answer n s).state ≡ s
-unfolding page_answer finish refuse potential_cleared moved
+unfolding page_answer deciding_with refuse potential_cleared moved
 page-reads n s = go (bad s) (too_short n)
   where
     go : (b t : Bool) → (cond b (refuse BadState s) (cond t (refuse ShortPage s) (deciding s (telling Step.PageWritten s.control)))).state ≡ s
@@ -223,7 +223,7 @@ only {a = a} (done h) k e = subst (λ (x : Step). Uses x a.polls_used) e h
 only (turned r n h q) k e = inl (sym n ∙ sym (ap (λ (x : Answer). number_of x.step) q) ∙ ap number_of e, h)
 only (passed n g) k e = inr (n, only g k e)
 
-by-numbers : {s : State} {a : Answer} {cs : List (ℕ × Type 0)} → Gets s a cs → Answered s cs a
+by-numbers : {s : State} {a : Answer} {cs : List (ℕ × Type 0)} → Gets s a cs → RefusedBy s cs a
 by-numbers g = record { given = given g; only = only g }
 
 kept : (t : ParentTimer) (ms : ℕ) (s : State) → Bad s → (lent_tick t ms s).timer ≡ t

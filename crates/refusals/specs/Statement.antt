@@ -5,7 +5,7 @@
 use Rattle.std.specs.Prelude.{Option, Some, None, Result, Ok, Err, is_ok, true, ℕ, suc, ◌-◌, ◌<◌, ◌≤◌, ◌≡◌, Bool, false, List, [], ◌∷◌, map, ◌⊎◌, ◌↔◌, length, take, drop}
 use Rattle.discovery.specs.declared.mlme.Address.{Address}
 use Rattle.supervision.specs.declared.parent_timer.ParentTimer.{ParentTimer}
-use Rattle.operation.specs.declared.Purpose.{Purpose}
+use Rattle.operation.specs.declared.ReceptionFor.{ReceptionFor}
 use Rattle.operation.specs.declared.ScanFor.{ScanFor}
 use Rattle.operation.specs.declared.TransmissionFor.{TransmissionFor}
 use Rattle.operation.specs.declared.Phase.{Phase}
@@ -71,7 +71,7 @@ numbers s (timeout u) = (5, Bad s) ∷ (1, UnderWay s) ∷ []
 numbers s (scan o) = (5, Bad s) ∷ (2, (u : ScanFor) → phase s ≡ Phase.Scan u → ⊥) ∷ (3, Above27 o) ∷ (4, Above16 o) ∷ []
 numbers s (association o) = (5, Bad s) ∷ (2, phase s ≡ Phase.Association → ⊥) ∷ []
 numbers s (transmission ok) = (5, Bad s) ∷ (2, (u : TransmissionFor) → phase s ≡ Phase.Transmission u → ⊥) ∷ []
-numbers s (reception o) = (5, Bad s) ∷ (2, (u : Purpose) → phase s ≡ Phase.Reception u → ⊥) ∷ []
+numbers s (reception o) = (5, Bad s) ∷ (2, (u : ReceptionFor) → phase s ≡ Phase.Reception u → ⊥) ∷ []
 numbers s (elapsed ms) = (5, Bad s) ∷ []
 numbers s take_leave = (5, Bad s) ∷ []
 numbers s take_status = (5, Bad s) ∷ []
@@ -92,7 +92,7 @@ pub record TurnedDown (k : ℕ) (s : State) (a : Answer) : Type 0 where
   pub polls : a.polls_used ≡ 0
 
 -- k is given if its condition is the first that holds, and only then; where none holds the step is made
-pub record Answered (s : State) (cs : List (ℕ × Type 0)) (a : Answer) : Type 0 where
+pub record RefusedBy (s : State) (cs : List (ℕ × Type 0)) (a : Answer) : Type 0 where
   pub given : (k : ℕ) → First k cs → TurnedDown k s a
   pub only : (r : Refusal) → a.step ≡ Step.Refused r → First (refusal_number r) cs
 
@@ -106,17 +106,17 @@ Unchosen k (Ok l) = ⊥
 -- and of the choice of candidates, which has no state to hand back, and has no list where it is turned down
 pub record Demand1 : Type 0 where
   pub numbered : map refusal_number (OperationUnderWay ∷ NotAwaited ∷ TooManyDescriptors ∷ TooManyShortAddressed ∷ BadState ∷ ShortPage ∷ []) ≡ 1 ∷ 2 ∷ 3 ∷ 4 ∷ 5 ∷ 6 ∷ []
-  pub answered : (s : State) (c : Call) → Answered s (numbers s c) (answer s c)
-  pub confirmed : (s : State) (o : Result PanDescriptorList MacError) → Answered s (numbers s (scan o)) (scanned o s).answer
+  pub answered : (s : State) (c : Call) → RefusedBy s (numbers s c) (answer s c)
+  pub confirmed : (s : State) (o : Result PanDescriptorList MacError) → RefusedBy s (numbers s (scan o)) (scanned o s).answer
   pub unconfirmed : (s : State) (o : Result PanDescriptorList MacError) (r : Refusal) → (scanned o s).answer.step ≡ Step.Refused r → (scanned o s).confirm ≡ None
-  pub lent : (t : ParentTimer) (ms : ℕ) (s : State) → Answered s ((5, Bad s) ∷ []) (lent_tick t ms s).answer
+  pub lent : (t : ParentTimer) (ms : ℕ) (s : State) → RefusedBy s ((5, Bad s) ∷ []) (lent_tick t ms s).answer
   pub record-kept : (t : ParentTimer) (ms : ℕ) (s : State) → Bad s → (lent_tick t ms s).timer ≡ t
   pub choice : (n : ℕ) (router permit : Bool) (s : State)
       → (Unchosen 5 (choose n router permit s) ↔ Bad s) × ((is_ok (choose n router permit s) ≡ true) ↔ (Bad s → ⊥))
   -- the restart of the timer by the node's owner
-  pub refreshed : (s : State) → Answered s ((5, Bad s) ∷ []) (refresh s)
+  pub refreshed : (s : State) → RefusedBy s ((5, Bad s) ∷ []) (refresh s)
   -- the neighbour page in a lent buffer b (02, L1): "6, a lent buffer shorter than 816 bytes, after 5".
   -- After a refusal every byte of b stays, and the state always does
-  pub page : (b : List ℕ) (s : State) → Answered s ((5, Bad s) ∷ (6, length b < 816) ∷ []) (page_answer (length b) s)
+  pub page : (b : List ℕ) (s : State) → RefusedBy s ((5, Bad s) ∷ (6, length b < 816) ∷ []) (page_answer (length b) s)
   pub page-kept : (b : List ℕ) (s : State) → Bad s ⊎ (length b < 816) → page_left b s ≡ b
   pub page-reads : (n : ℕ) (s : State) → (page_answer n s).state ≡ s

@@ -18,7 +18,7 @@ use Rattle.management.specs.declared.PollAnswer.{PollAnswer}
 use Rattle.nlme.specs.declared.Nlme.{Nlme}
 use Rattle.nlme.specs.Received.{handled}
 use Rattle.nlme.specs.declared.received.Then.{Then}
-use Rattle.operation.specs.declared.Purpose.{Purpose}
+use Rattle.operation.specs.declared.ReceptionFor.{ReceptionFor}
 use Rattle.operation.specs.declared.ScanFor.{ScanFor}
 use Rattle.operation.specs.declared.TransmissionFor.{TransmissionFor}
 use Rattle.operation.specs.declared.Leaving.{Leaving}
@@ -32,12 +32,12 @@ use Rattle.operation.specs.declared.Decision.{Decision}
 use Rattle.operation.specs.Operation.{with_nlme, is_idle, scan_for, association_for, transmission_for, reception_for, telling, asking}
 use Rattle.join.specs.Join.{failing, associating, reset_negotiation, store_capabilities, join_started}
 use Rattle.join.specs.Rejoin.{invalid, trying, try_remembered, begun, rejoin_started}
-use Rattle.node.specs.Looks.{with_table, entries, parent, next, broadcast, moved, potential_cleared, finish, deciding}
+use Rattle.node.specs.Looks.{with_table, entries, parent, next, broadcast, moved, potential_cleared, deciding_with, deciding}
 use Rattle.node.specs.Refusals.{refuse, bad, outcome}
-use Rattle.node.specs.Calls.{with_chosen, associate, join_by, scan_failed, with_scan, scan_heard, scan_over, association_over, continuing, go_on, with_node, table_changed, after, taught_on, reception_over, after_leave, transmission_over, Call, discovery, join, send, poll, receive, timeout, scan, association, transmission, reception, elapsed, take_leave, take_status, made, answer}
+use Rattle.node.specs.Calls.{with_chosen, associate, join_by, scan_failed, with_scan, scan_heard, scan_decided, association_decided, continuing, go_on, with_node, table_changed, after_frame, taught_on, reception_decided, after_leave, transmission_decided, Call, discovery, join, send, poll, receive, timeout, scan, association, transmission, reception, elapsed, take_leave, take_status, made, answer}
 use Rattle.node.specs.declared.State.{State}
 use Rattle.node.specs.declared.Answer.{Answer}
-use Rattle.rejoin_bound.specs.Bound.{for_rejoin, in_rejoin, is_outcome, is_refused, accepted, outcomes, RejoinBound}
+use Rattle.rejoin_bound.specs.Bound.{for_rejoin, in_rejoin, is_outcome, is_refused, is_accepted, outcomes, RejoinBound}
 use Rattle.rejoin_bound.proofs.Measure.{still, weight, measure, potential, potential-le, rest-false, either, Drops, drops, failing-drops, scan_or_end-drops, try_next-drops, answered_by-drops, request_sent-drops}
 use Rattle.nib.specs.declared.NwkNeighbor.{NwkNeighbor}
 use Rattle.discovery.specs.declared.mlme.MacError.{MacError}
@@ -58,14 +58,14 @@ and-false false = refl
 data Rejoining : Phase → Type 0 where
   scanning : Rejoining (Phase.Scan ScanFor.Rejoin)
   sending : Rejoining (Phase.Transmission TransmissionFor.RejoinRequest)
-  leaving : (rejoin : Bool) → Rejoining (Phase.Transmission (TransmissionFor.Leave (record { purpose = Purpose.RejoinResponse; rejoin = rejoin })))
-  polling : Rejoining (Phase.Reception Purpose.RejoinResponse)
+  leaving : (rejoin : Bool) → Rejoining (Phase.Transmission (TransmissionFor.Leave (record { purpose = ReceptionFor.RejoinResponse; rejoin = rejoin })))
+  polling : Rejoining (Phase.Reception ReceptionFor.RejoinResponse)
 
-leave-rejoining : (u : Purpose) (rejoin : Bool) → for_rejoin u ≡ true → Rejoining (Phase.Transmission (TransmissionFor.Leave (record { purpose = u; rejoin = rejoin })))
-leave-rejoining Purpose.RejoinResponse rejoin h = leaving rejoin
-leave-rejoining Purpose.SinglePoll rejoin h = absurd (false≢true h)
-leave-rejoining Purpose.SingleReceive rejoin h = absurd (false≢true h)
-leave-rejoining (Purpose.TimeoutResponse u) rejoin h = absurd (false≢true h)
+leave-rejoining : (u : ReceptionFor) (rejoin : Bool) → for_rejoin u ≡ true → Rejoining (Phase.Transmission (TransmissionFor.Leave (record { purpose = u; rejoin = rejoin })))
+leave-rejoining ReceptionFor.RejoinResponse rejoin h = leaving rejoin
+leave-rejoining ReceptionFor.SinglePoll rejoin h = absurd (false≢true h)
+leave-rejoining ReceptionFor.SingleReceive rejoin h = absurd (false≢true h)
+leave-rejoining (ReceptionFor.TimeoutResponse u) rejoin h = absurd (false≢true h)
 
 rejoining : (p : Phase) → in_rejoin p ≡ true → Rejoining p
 rejoining Phase.Idle h = absurd (false≢true h)
@@ -76,24 +76,24 @@ rejoining (Phase.Transmission TransmissionFor.RejoinRequest) h = sending
 rejoining (Phase.Transmission TransmissionFor.Data) h = absurd (false≢true h)
 rejoining (Phase.Transmission (TransmissionFor.TimeoutRequest u)) h = absurd (false≢true h)
 rejoining (Phase.Transmission (TransmissionFor.Leave l)) h = leave-rejoining l.purpose l.rejoin h
-rejoining (Phase.Reception Purpose.RejoinResponse) h = polling
-rejoining (Phase.Reception Purpose.SinglePoll) h = absurd (false≢true h)
-rejoining (Phase.Reception Purpose.SingleReceive) h = absurd (false≢true h)
-rejoining (Phase.Reception (Purpose.TimeoutResponse u)) h = absurd (false≢true h)
+rejoining (Phase.Reception ReceptionFor.RejoinResponse) h = polling
+rejoining (Phase.Reception ReceptionFor.SinglePoll) h = absurd (false≢true h)
+rejoining (Phase.Reception ReceptionFor.SingleReceive) h = absurd (false≢true h)
+rejoining (Phase.Reception (ReceptionFor.TimeoutResponse u)) h = absurd (false≢true h)
 
 -- a call, counted if it is an accepted outcome, and what its answer leaves are within m
 record Within (m : ℕ) (c : Call) (a : Answer) : Type 0 where
-  fits : cond (accepted c a) 1 0 + potential a.state ≤ m
+  fits : cond (is_accepted c a) 1 0 + potential a.state ≤ m
 
 spent : {m : ℕ} (c : Call) (a : Answer) → suc (potential a.state) ≤ m → Within m c a
-spent {m} c a h = record { fits = either (λ (k : ℕ). k + potential a.state ≤ m) (accepted c a) (λ _. omega arith) (λ _. omega arith) }
+spent {m} c a h = record { fits = either (λ (k : ℕ). k + potential a.state ≤ m) (is_accepted c a) (λ _. omega arith) (λ _. omega arith) }
 
-carried : {m : ℕ} (c : Call) (reset : Bool) (s : State) (d : Decision) → Drops m s d → Within m c (finish reset s d)
-unfolding finish
-carried c reset s d h = spent c (finish reset s d) h.fits
+carried : {m : ℕ} (c : Call) (reset : Bool) (s : State) (d : Decision) → Drops m s d → Within m c (deciding_with reset s d)
+unfolding deciding_with
+carried c reset s d h = spent c (deciding_with reset s d) h.fits
 
 -- what is no accepted outcome is not counted
-uncounted : {m : ℕ} (c : Call) (a : Answer) → accepted c a ≡ false → potential a.state ≤ m → Within m c a
+uncounted : {m : ℕ} (c : Call) (a : Answer) → is_accepted c a ≡ false → potential a.state ≤ m → Within m c a
 uncounted {m} c a q h = record { fits = subst (λ (b : Bool). cond b 1 0 + potential a.state ≤ m) (sym q) (omega arith) }
 
 refused : {m : ℕ} (c : Call) (k : Refusal) (s : State) → potential s ≤ m → Within m c (refuse k s)
@@ -115,40 +115,40 @@ module _ (s : State) where
   turned_down c k p q = subst (λ (x : Phase). Within (weight x s) c (refuse k s)) (sym q) (refused c k s (potential-le s))
 
   -- the polls go on
-  go_on-within : {m : ℕ} (c : Call) (reset : Bool) (a : PollAnswer) → suc (still s s.control.operation) ≤ m → Within m c (go_on reset Purpose.RejoinResponse a s)
+  go_on-within : {m : ℕ} (c : Call) (reset : Bool) (a : PollAnswer) → suc (still s s.control.operation) ≤ m → Within m c (go_on reset ReceptionFor.RejoinResponse a s)
   unfolding continuing
   go_on-within c reset a h = carried c reset s _ (answered_by-drops s _ (parent s) s.control h)
 
-  after-within : {m : ℕ} (c : Call) (t : Then) → suc (suc (still s s.control.operation)) ≤ m → Within m c (after Purpose.RejoinResponse t s)
-  unfolding after finish moved potential_cleared
+  after-within : {m : ℕ} (c : Call) (t : Then) → suc (suc (still s s.control.operation)) ≤ m → Within m c (after_frame ReceptionFor.RejoinResponse t s)
+  unfolding after_frame deciding_with moved potential_cleared
   after-within c (Then.Over a) h = go_on-within c false a (omega arith)
   after-within c (Then.Announce a) h =
-      let l : Leaving = record { purpose = Purpose.RejoinResponse; rejoin = a.rejoin } in
+      let l : Leaving = record { purpose = ReceptionFor.RejoinResponse; rejoin = a.rejoin } in
       carried c false s _ (drops s (asking (Phase.Transmission (TransmissionFor.Leave l)) (RadioRequest.Transmit a.transmission) s.control) (omega arith))
 
 changed-within : {m : ℕ} (c : Call) (s : State) (t : Option ShortAddress) (u : Then) → suc (suc (still s s.control.operation)) ≤ m
-    → Within m c (after Purpose.RejoinResponse u (table_changed t s))
+    → Within m c (after_frame ReceptionFor.RejoinResponse u (table_changed t s))
 unfolding table_changed
 changed-within c s None u h = after-within s c u h
 changed-within c s (Some a) u h = after-within (with_table (table_of (retained a.0 (entries s))) s) c u h
 
 left-within : {m : ℕ} (c : Call) (s : State) (rejoin : Bool) → suc (still s s.control.operation) ≤ m
-    → Within m c (go_on (not rejoin) Purpose.RejoinResponse PollAnswer.PollNothing (after_leave rejoin s))
+    → Within m c (go_on (not rejoin) ReceptionFor.RejoinResponse PollAnswer.PollNothing (after_leave rejoin s))
 unfolding after_leave
 left-within c s true h = go_on-within (after_leave true s) c false _ h
 left-within c s false h = go_on-within (after_leave false s) c true _ h
 
 module _ (s : State) where
-  received-within : (o : Result (Option ReceivedFrame) MacError) → Within (weight (Phase.Reception Purpose.RejoinResponse) s) (reception o) (reception_over o Purpose.RejoinResponse s)
-  unfolding reception_over
+  received-within : (o : Result (Option ReceivedFrame) MacError) → Within (weight (Phase.Reception ReceptionFor.RejoinResponse) s) (reception o) (reception_decided o ReceptionFor.RejoinResponse s)
+  unfolding reception_decided
   received-within (Ok None) = go_on-within s _ false _ (omega arith)
   received-within (Err e) = go_on-within s _ false _ (omega arith)
   received-within (Ok (Some f)) =
       let h = handled (parent (taught_on f s)) (broadcast (taught_on f s)) f s.control.nlme in
       changed-within (reception (Ok (Some f))) (with_node h.nlme (taught_on f s)) h.removed h.then (omega arith)
 
-  scanned-within : (o : Result PanDescriptorList MacError) → Phase.Scan ScanFor.Rejoin ≡ s.control.operation.phase → Within (weight (Phase.Scan ScanFor.Rejoin) s) (scan o) (scan_over o ScanFor.Rejoin s)
-  unfolding scan_over scan_failed scan_heard with_scan with_chosen
+  scanned-within : (o : Result PanDescriptorList MacError) → Phase.Scan ScanFor.Rejoin ≡ s.control.operation.phase → Within (weight (Phase.Scan ScanFor.Rejoin) s) (scan o) (scan_decided o ScanFor.Rejoin s)
+  unfolding scan_decided scan_failed scan_heard with_scan with_chosen
   scanned-within (Err e) q = carried (scan (Err e)) false s _ (failing-drops s _ s.control (omega arith))
   scanned-within (Ok l) q =
       let o : Result PanDescriptorList MacError = Ok l in
@@ -165,7 +165,7 @@ module _ (s : State) where
   start-within c a (leaving rejoin) q = turned_down s c OperationUnderWay _ q
   start-within c a polling q = turned_down s c OperationUnderWay _ q
 
-  scan-within : (o : Result PanDescriptorList MacError) {p : Phase} → Rejoining p → p ≡ s.control.operation.phase → Within (weight p s) (scan o) (outcome (scan_for p) (scan_over o) s)
+  scan-within : (o : Result PanDescriptorList MacError) {p : Phase} → Rejoining p → p ≡ s.control.operation.phase → Within (weight p s) (scan o) (outcome (scan_for p) (scan_decided o) s)
   unfolding outcome
   scan-within o scanning q = scanned-within o q
   scan-within o sending q = turned_down s (scan o) NotAwaited _ q
@@ -173,7 +173,7 @@ module _ (s : State) where
   scan-within o polling q = turned_down s (scan o) NotAwaited _ q
 
   association-within : (o : Result AssociationResponse MacError) {p : Phase} → Rejoining p → p ≡ s.control.operation.phase
-      → Within (weight p s) (association o) (outcome (association_for p) (association_over o) s)
+      → Within (weight p s) (association o) (outcome (association_for p) (association_decided o) s)
   unfolding outcome
   association-within o scanning q = turned_down s (association o) NotAwaited _ q
   association-within o sending q = turned_down s (association o) NotAwaited _ q
@@ -181,15 +181,15 @@ module _ (s : State) where
   association-within o polling q = turned_down s (association o) NotAwaited _ q
 
   transmission-within : (ok : Bool) {p : Phase} → Rejoining p → p ≡ s.control.operation.phase
-      → Within (weight p s) (transmission ok) (outcome (transmission_for p) (transmission_over ok) s)
-  unfolding outcome transmission_over
+      → Within (weight p s) (transmission ok) (outcome (transmission_for p) (transmission_decided ok) s)
+  unfolding outcome transmission_decided
   transmission-within ok scanning q = turned_down s (transmission ok) NotAwaited _ q
   transmission-within ok sending q = carried (transmission ok) false s _ (request_sent-drops s ok (parent s) s.control (omega arith))
   transmission-within ok (leaving rejoin) q = left-within (transmission ok) s rejoin (omega arith)
   transmission-within ok polling q = turned_down s (transmission ok) NotAwaited _ q
 
   reception-within : (o : Result (Option ReceivedFrame) MacError) {p : Phase} → Rejoining p → p ≡ s.control.operation.phase
-      → Within (weight p s) (reception o) (outcome (reception_for p) (reception_over o) s)
+      → Within (weight p s) (reception o) (outcome (reception_for p) (reception_decided o) s)
   unfolding outcome
   reception-within o scanning q = turned_down s (reception o) NotAwaited _ q
   reception-within o sending q = turned_down s (reception o) NotAwaited _ q
@@ -198,7 +198,7 @@ module _ (s : State) where
 
   -- a tick or a taking changes the node's own part only
   told : (c : Call) (x : Step) (n : Nlme) → is_outcome c ≡ false → Within (measure s) c (deciding s (telling x (with_nlme n s.control)))
-  unfolding finish moved potential_cleared
+  unfolding deciding_with moved potential_cleared
   told c x n q = uncounted c _ (ap (λ (b : Bool). not (is_refused x) && b) q ∙ and-false (not (is_refused x))) (potential-le (with_node n s))
 
   module _ (r : Rejoining s.control.operation.phase) where
@@ -228,7 +228,7 @@ at_most s [] = zero-le
 at_most s (c ∷ cs) = go (in_rejoin s.control.operation.phase) refl (at_most (answer s c).state cs)
   where
     go : (b : Bool) → in_rejoin s.control.operation.phase ≡ b → outcomes (answer s c).state cs ≤ potential (answer s c).state
-        → cond b (cond (accepted c (answer s c)) 1 0 + outcomes (answer s c).state cs) 0 ≤ potential s
+        → cond b (cond (is_accepted c (answer s c)) 1 0 + outcomes (answer s c).state cs) 0 ≤ potential s
     go true q h = omega (arith, (within s (rejoining _ q) c).fits)
     go false q h = zero-le
 
@@ -237,11 +237,11 @@ at_most s (c ∷ cs) = go (in_rejoin s.control.operation.phase) refl (at_most (a
 record Starts (a : Answer) : Type 0 where
   fits : potential a.state ≤ 698
 
-starts : (s : State) (d : Decision) → Drops 699 s d → Starts (finish false s d)
+starts : (s : State) (d : Decision) → Drops 699 s d → Starts (deciding_with false s d)
 starts s d h = record { fits = omega (arith, h.fits) }
 
 try_remembered-drops : (s : State) (parent : Option NwkNeighbor) (c : Control) → c.operation.scan_requested ≡ false → Drops 699 s (try_remembered parent c)
-unfolding try_remembered trying finish moved potential_cleared
+unfolding try_remembered trying deciding_with moved potential_cleared
 try_remembered-drops s None c q = scan_or_end-drops s NlmeJoinStatus.InvalidRequest c (omega arith)
 try_remembered-drops s (Some p) c q = drops s (trying Move.Stay None p c) (omega (arith, rest-false c.operation.scan_requested s.candidates.taken q))
 
@@ -251,7 +251,7 @@ rejoin_started-drops s r parent c =
     either (Drops 699 s) (invalid r c.nlme) (λ _. failing-drops s NlmeJoinStatus.InvalidRequest c (omega arith)) (λ _. try_remembered-drops s parent (begun r c) refl)
 
 join_started-drops : (s : State) (i : CapabilityInformation) (next : Option NwkNeighbor) (c : Control) → Drops 699 s (join_started i next c)
-unfolding join_started associating finish moved potential_cleared
+unfolding join_started associating deciding_with moved potential_cleared
 join_started-drops s i None c = failing-drops s NlmeJoinStatus.NotPermitted (reset_negotiation c) (omega arith)
 join_started-drops s i (Some e) c = drops s (associating e (store_capabilities i (reset_negotiation c))) (omega arith)
 

@@ -16,7 +16,7 @@ use Rattle.nib.specs.NeighborTable.{seen_in}
 use Rattle.nib.proofs.Entries.{entries-on, adopted-long}
 use Rattle.candidates.specs.Candidates.{items_of}
 use Rattle.management.specs.declared.NlmeJoinStatus.{NlmeJoinStatus}
-use Rattle.operation.specs.declared.Purpose.{Purpose}
+use Rattle.operation.specs.declared.ReceptionFor.{ReceptionFor}
 use Rattle.operation.specs.declared.ScanFor.{ScanFor}
 use Rattle.operation.specs.declared.TransmissionFor.{TransmissionFor}
 use Rattle.operation.specs.declared.Phase.{Phase}
@@ -31,7 +31,7 @@ use Rattle.join.specs.Join.{failing, failed_status}
 use Rattle.join.specs.Rejoin.{no_response, trying, scan_or_end, try_candidate, try_next, try_failed, rejoined, responded, answered_by, request_sent}
 use Rattle.candidates.specs.Tries.{to_try, skipped, next_index, next_in, taking, adopted_next}
 use Rattle.candidates.specs.declared.tries.Candidates.{Candidates}
-use Rattle.node.specs.Looks.{entries, next, moved, potential_cleared, finish}
+use Rattle.node.specs.Looks.{entries, next, moved, potential_cleared, deciding_with}
 use Rattle.node.specs.Refusals.{bad}
 use Rattle.node.specs.declared.State.{State}
 use Rattle.management.specs.declared.RejoinResponse.{RejoinResponse}
@@ -51,11 +51,11 @@ abbrev pub still : State → Operation → ℕ
 still s o = 2 * o.polls_left + later s o
 
 -- what is left in a phase: k is the above, j what is left before the scan's outcome
-abbrev pub if_rejoin : Purpose → ℕ → ℕ
-if_rejoin Purpose.RejoinResponse k = k
-if_rejoin Purpose.SinglePoll k = 0
-if_rejoin Purpose.SingleReceive k = 0
-if_rejoin (Purpose.TimeoutResponse u) k = 0
+abbrev pub if_rejoin : ReceptionFor → ℕ → ℕ
+if_rejoin ReceptionFor.RejoinResponse k = k
+if_rejoin ReceptionFor.SinglePoll k = 0
+if_rejoin ReceptionFor.SingleReceive k = 0
+if_rejoin (ReceptionFor.TimeoutResponse u) k = 0
 
 abbrev pub to_come : Phase → ℕ → ℕ → ℕ
 to_come Phase.Idle k j = 0
@@ -146,23 +146,23 @@ adopted-more s h =
 
 -- a decision that is carried out leaves less than m
 pub record Drops (m : ℕ) (s : State) (d : Decision) : Type 0 where
-  pub fits : suc (potential (finish false s d).state) ≤ m
+  pub fits : suc (potential (deciding_with false s d).state) ≤ m
 
-pub drops : {m : ℕ} (s : State) (d : Decision) → suc (measure (finish false s d).state) ≤ m → Drops m s d
-drops s d h = record { fits = omega (arith, potential-le (finish false s d).state) }
+pub drops : {m : ℕ} (s : State) (d : Decision) → suc (measure (deciding_with false s d).state) ≤ m → Drops m s d
+drops s d h = record { fits = omega (arith, potential-le (deciding_with false s d).state) }
 
 -- the state that it leaves may be taken to be one in which not every call is refused
-drops-if : {m : ℕ} (s : State) (d : Decision) → 1 ≤ m → (bad (finish false s d).state ≡ false → suc (measure (finish false s d).state) ≤ m) → Drops m s d
+drops-if : {m : ℕ} (s : State) (d : Decision) → 1 ≤ m → (bad (deciding_with false s d).state ≡ false → suc (measure (deciding_with false s d).state) ≤ m) → Drops m s d
 unfolding potential
-drops-if {m} s d l h = record { fits = either (λ (k : ℕ). suc k ≤ m) (bad (finish false s d).state) (λ _. l) h }
+drops-if {m} s d l h = record { fits = either (λ (k : ℕ). suc k ≤ m) (bad (deciding_with false s d).state) (λ _. l) h }
 
 module _ {m : ℕ} (s : State) where
   pub failing-drops : (st : NlmeJoinStatus) (c : Control) → 1 ≤ m → Drops m s (failing st c)
-  unfolding finish
+  unfolding deciding_with
   failing-drops st c h = drops s (failing st c) h
 
   pub scan_or_end-drops : (st : NlmeJoinStatus) (c : Control) → 658 ≤ m → Drops m s (scan_or_end st c)
-  unfolding scan_or_end finish moved potential_cleared
+  unfolding scan_or_end deciding_with moved potential_cleared
   scan_or_end-drops st c h =
       either (Drops m s) (leb c.operation.scan.past c.operation.scan.first) (λ _. failing-drops st c (omega arith))
       (λ _. drops s (asking (Phase.Scan ScanFor.Rejoin) (RadioRequest.Scan c.operation.scan) (with_operation (with_scan_requested c.operation) c)) h)
@@ -170,11 +170,11 @@ module _ {m : ℕ} (s : State) where
   -- the next candidate is tried, of those that the state has
   pub try_next-drops : (st : NlmeJoinStatus) (x : Option NwkNeighbor) (c : Control) → x ≡ next s → 1 ≤ m
       → (s.candidates.taken < 16 → 42 + rest c.operation.scan_requested (suc s.candidates.taken) ≤ m) → Drops m s (try_next st x c)
-  unfolding try_next try_candidate trying finish moved potential_cleared
+  unfolding try_next try_candidate trying deciding_with moved potential_cleared
   try_next-drops st None c q l h = failing-drops st c l
   try_next-drops st (Some e) c q l h =
       drops-if s (try_candidate e c) l
-      (λ b. let after = (finish false s (try_candidate e c)).state in
+      (λ b. let after = (deciding_with false s (try_candidate e c)).state in
       let more : suc s.candidates.taken ≤ after.candidates.taken = adopted-more s (subst IsEntry q tt) in
       omega (arith, h (omega (arith, few-taken after b)), rest-on c.operation.scan_requested s.candidates.taken after.candidates.taken more))
 
@@ -185,16 +185,16 @@ module _ {m : ℕ} (s : State) where
       (λ q. try_next-drops st (next s) c refl (omega arith) (λ l. omega (arith, rest-true c.operation.scan_requested s.candidates.taken q l)))
       (λ q. scan_or_end-drops st c (omega (arith, rest-false c.operation.scan_requested s.candidates.taken q)))
 
-  polls-drop : (p : Option NwkNeighbor) (c : Control) → suc (still s c.operation) ≤ m → Drops m s (poll_on Purpose.RejoinResponse p (try_failed NlmeJoinStatus.MacError (next s)) c)
-  unfolding polling poll_on finish moved potential_cleared
+  polls-drop : (p : Option NwkNeighbor) (c : Control) → suc (still s c.operation) ≤ m → Drops m s (poll_on ReceptionFor.RejoinResponse p (try_failed NlmeJoinStatus.MacError (next s)) c)
+  unfolding polling poll_on deciding_with moved potential_cleared
   polls-drop None c h = try_failed-drops _ (with_polls_left 0 c) (omega arith)
   polls-drop (Some p) c h =
-      either (λ (x : Polling). Drops m s (polled_or Purpose.RejoinResponse (try_failed NlmeJoinStatus.MacError (next s)) x.parent x.control)) (eqb c.operation.polls_left 0)
+      either (λ (x : Polling). Drops m s (polled_or ReceptionFor.RejoinResponse (try_failed NlmeJoinStatus.MacError (next s)) x.parent x.control)) (eqb c.operation.polls_left 0)
       (λ _. try_failed-drops _ c (omega arith))
-      (λ q. drops s (polled Purpose.RejoinResponse p (with_polls_left (c.operation.polls_left - 1) c)) (omega (arith, eqb-false c.operation.polls_left 0 q)))
+      (λ q. drops s (polled ReceptionFor.RejoinResponse p (with_polls_left (c.operation.polls_left - 1) c)) (omega (arith, eqb-false c.operation.polls_left 0 q)))
 
   pub answered_by-drops : (a : Option RejoinResponse) (p : Option NwkNeighbor) (c : Control) → suc (still s c.operation) ≤ m → Drops m s (answered_by a p (next s) c)
-  unfolding answered_by responded rejoined finish moved potential_cleared
+  unfolding answered_by responded rejoined deciding_with moved potential_cleared
   answered_by-drops (Some r) p c h =
       either (Drops m s) (eqb r.status 0) (λ _. drops s (rejoined r (with_nlme (no_response c.nlme) c)) (omega arith))
       (λ _. try_failed-drops (failed_status r.status) (with_nlme (no_response c.nlme) c) (omega arith))

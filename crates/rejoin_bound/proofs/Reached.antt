@@ -24,9 +24,9 @@ use Rattle.nlme.specs.Received.{taught_by, taught, accepts_leave, leave_requeste
 use Rattle.operation.specs.Operation.{polling, poll_on}
 use Rattle.join.specs.Rejoin.{invalid, trying, scan_or_end, try_remembered, rejoin_started, try_candidate, try_next, try_failed, answered_by, request_sent}
 use Rattle.node.specs.Beginning.{new_state}
-use Rattle.node.specs.Looks.{with_table, moved, potential_cleared, finish}
+use Rattle.node.specs.Looks.{with_table, moved, potential_cleared, deciding_with}
 use Rattle.node.specs.Refusals.{bad, outcome}
-use Rattle.node.specs.Calls.{with_chosen, join_by, with_scan, scan_heard, scan_over, continuing, table_changed, after, reception_over, after_leave, transmission_over, Call, scan, transmission, reception, answer}
+use Rattle.node.specs.Calls.{with_chosen, join_by, with_scan, scan_heard, scan_decided, continuing, table_changed, after_frame, reception_decided, after_leave, transmission_decided, Call, scan, transmission, reception, answer}
 use Rattle.node.specs.declared.State.{State}
 use Rattle.rejoin_bound.specs.Bound.{BoundReached}
 
@@ -118,9 +118,9 @@ abbrev calls : List Call
 calls = unanswered_try ++ (heard_beacons ∷ times 16 unanswered_try)
 
 pub bound-reached : BoundReached
-unfolding new_state new_nlme answer bad outcome join_by rejoin_started invalid try_remembered trying negotiation_reset finish moved potential_cleared parent_in parent_of
-    transmission_over request_sent answered_by polling poll_on try_failed scan_or_end reception_over taught taught_by on_entries handled leave_handled leave_requested
-    accepts_leave table_changed after after_leave leave_announced left_for continuing scan_over scan_heard with_scan neighbors_of neighbor_by entry_of present
+unfolding new_state new_nlme answer bad outcome join_by rejoin_started invalid try_remembered trying negotiation_reset deciding_with moved potential_cleared parent_in parent_of
+    transmission_decided request_sent answered_by polling poll_on try_failed scan_or_end reception_decided taught taught_by on_entries handled leave_handled leave_requested
+    accepts_leave table_changed after_frame after_leave leave_announced left_for continuing scan_decided scan_heard with_scan neighbors_of neighbor_by entry_of present
     potential_parent_of with_chosen candidates eligible link_cost newest newer flat_map try_next try_candidate next_in next_index skipped taking adopted_next
     adopted marked
 bound-reached = (lost, request, calls, refl, refl)

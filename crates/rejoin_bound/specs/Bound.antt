@@ -2,7 +2,7 @@
 -- "With a leave's announcement allowed in each poll, a rejoin uses at most 698 outcomes: 17 × 41 + 1. A set-channel or set-address note has no outcome."
 use Rattle.std.specs.Prelude.{ℕ, ◌+◌, ◌*◌, ◌≤◌, ◌≡◌, Bool, true, false, cond, not, ◌&&◌, List, [], ◌∷◌}
 use Rattle.management.specs.declared.NlmeJoinRequest.{NlmeJoinRequest}
-use Rattle.operation.specs.declared.Purpose.{Purpose}
+use Rattle.operation.specs.declared.ReceptionFor.{ReceptionFor}
 use Rattle.operation.specs.declared.ScanFor.{ScanFor}
 use Rattle.operation.specs.declared.TransmissionFor.{TransmissionFor}
 use Rattle.operation.specs.declared.Phase.{Phase}
@@ -12,11 +12,11 @@ use Rattle.node.specs.declared.State.{State}
 use Rattle.node.specs.declared.Answer.{Answer}
 
 -- a rejoin is under way: it awaits its scan, the send of a request, a poll, or the announcement of a leave that a poll brought
-abbrev pub for_rejoin : Purpose → Bool
-for_rejoin Purpose.RejoinResponse = true
-for_rejoin Purpose.SinglePoll = false
-for_rejoin Purpose.SingleReceive = false
-for_rejoin (Purpose.TimeoutResponse u) = false
+abbrev pub for_rejoin : ReceptionFor → Bool
+for_rejoin ReceptionFor.RejoinResponse = true
+for_rejoin ReceptionFor.SinglePoll = false
+for_rejoin ReceptionFor.SingleReceive = false
+for_rejoin (ReceptionFor.TimeoutResponse u) = false
 
 abbrev pub in_rejoin : Phase → Bool
 in_rejoin Phase.Idle = false
@@ -29,7 +29,7 @@ in_rejoin (Phase.Transmission (TransmissionFor.TimeoutRequest u)) = false
 in_rejoin (Phase.Transmission (TransmissionFor.Leave l)) = for_rejoin l.purpose
 in_rejoin (Phase.Reception u) = for_rejoin u
 
--- an accepted outcome: a call that reports what came of a request to the radio, and is not refused
+-- a call that reports what came of a request to the radio
 abbrev pub is_outcome : Call → Bool
 is_outcome (discovery r) = false
 is_outcome (join r) = false
@@ -61,14 +61,15 @@ is_refused (Step.StatusTaken x) = false
 is_refused Step.PageWritten = false
 is_refused Step.Done = false
 
-abbrev pub accepted : Call → Answer → Bool
-accepted c a = not (is_refused a.step) && is_outcome c
+-- an accepted outcome: such a call that is not refused
+abbrev pub is_accepted : Call → Answer → Bool
+is_accepted c a = not (is_refused a.step) && is_outcome c
 
 -- how many accepted outcomes a list of calls has until the rejoin is over, the one that ends it included; any other call may stand among them
 abbrev pub outcomes : State → List Call → ℕ
 outcomes s [] = 0
 outcomes s (c ∷ cs) =
-    cond (in_rejoin s.control.operation.phase) (cond (accepted c (answer s c)) 1 0 + outcomes (answer s c).state cs) 0
+    cond (in_rejoin s.control.operation.phase) (cond (is_accepted c (answer s c)) 1 0 + outcomes (answer s c).state cs) 0
 
 -- 17 tries, the remembered parent's and those of 16 candidates, each of one send and of 20 polls with a leave's announcement in each; and one scan
 abbrev pub most : ℕ

@@ -11,5 +11,5 @@ unfoldable pub negotiated_timeout_ms : ℕ → Option ℕ
 negotiated_timeout_ms i = option_map (λ s. s * 1000) (timeout_seconds i)
 
 -- the timer after a restart (Zigbee 3.6.10.6): 0, which is inactive, where there is no timeout, even if it ran
-unfoldable pub refreshed : ℕ → ParentTimer
-refreshed i = record { remaining_ms = unwrap_or (negotiated_timeout_ms i) 0 }
+unfoldable pub refreshed_timer : ℕ → ParentTimer
+refreshed_timer i = record { remaining_ms = unwrap_or (negotiated_timeout_ms i) 0 }

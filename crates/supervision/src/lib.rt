@@ -4,7 +4,7 @@
 ghost use Rattle.std.specs.Prelude.{◌≡◌, ◌+◌, ◌<◌, ◌≤◌, [], length, position, get_or, set};
 ghost use Rattle.lists.specs.Lists.{change_at};
 ghost use Rattle.lists.specs.Private.{remove_at};
-ghost use Rattle.supervision.specs.Timeouts.{timeout_seconds, negotiated_timeout_ms, refreshed};
+ghost use Rattle.supervision.specs.Timeouts.{timeout_seconds, negotiated_timeout_ms, refreshed_timer};
 ghost use Rattle.supervision.specs.Keepalive.{keepalive_interval_ms, offered, keepalive_method, negotiated_poll_interval_ms};
 ghost use Rattle.supervision.specs.Failures.{pairs_of, failures_of, blank_pair, of_address, one_more, counted_once, with_room, recorded, pair_removed, transmit_failed};
 
@@ -35,9 +35,9 @@ pub fn negotiated_timeout_ms(end_device_timeout: u8) -> Option<u32>
 }
 
 // The parent timer as it is restarted: inactive where no timeout was negotiated.
-#[tactic(auto, unfolding(crate::specs::Timeouts::refreshed))]
+#[tactic(auto, unfolding(crate::specs::Timeouts::refreshed_timer))]
 pub fn refresh_parent_timeout(end_device_timeout: u8) -> ParentTimer
-    ensures { result ≡ refreshed end_device_timeout }
+    ensures { result ≡ refreshed_timer end_device_timeout }
 {
     let timeout = negotiated_timeout_ms(end_device_timeout);
     ParentTimer {

@@ -1,6 +1,6 @@
 // The parent timer: the local end-device timeout (Zigbee 3.6.10.6).
 ghost use Rattle.std.specs.Prelude.{◌≡◌};
-ghost use Rattle.supervision.specs.Timer.{ticked};
+ghost use Rattle.supervision.specs.Timer.{inactive_timer, ticked};
 
 // The milliseconds of a timer that is inactive: no timeout is negotiated, or it has expired.
 pub const PARENT_TIMEOUT_INACTIVE: u32 = 0;
@@ -24,7 +24,7 @@ pub struct Ticked {
 impl ParentTimer {
     // An inactive timer.
     pub fn new() -> ParentTimer
-        ensures { result ≡ record { remaining_ms = 0 } }
+        ensures { result ≡ inactive_timer }
     {
         ParentTimer {
             remaining_ms: PARENT_TIMEOUT_INACTIVE,

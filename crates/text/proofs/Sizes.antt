@@ -49,6 +49,7 @@ digit-some b n = go (leb 48 b) refl (leb b 57) (leb 97 b) refl (leb b 102)
     go false e q true g false = omega arith
     go false e q false g s = omega arith
 
+-- a decimal number's first of several digits is not 0: with n more digits it is at least 10 ^ n, so it has no more than the limit allows
 pub decimal-size : (j limit : ℕ) (f : List ℕ) → limit < 10 ^ suc j → is_some (decimal_of limit f) ≡ true → length f ≤ suc j
 unfolding decimal_of number_from
 decimal-size j limit [] h t = zero-le

@@ -181,7 +181,8 @@ impl InputKind {
         }
     }
 
-    // A letter for each further field: what stands in it. No enum of forms: by letters a kind is one line, by variants as many lines as it has fields, up to 19.
+    // A letter for each further field: what stands in it. No enum of forms: by letters a kind is one line, by variants as many lines as it has fields, up to
+    // 19.
     fn letters(self) -> &'static [u8]
         ensures value { result.now ≡ letters_of self }
         ensures few { length result.now ≤ 19 }

@@ -24,7 +24,7 @@ use Rattle.management.specs.declared.PollAnswer.{PollAnswer}
 use Rattle.management.specs.declared.frame.ReceivedFrame.{ReceivedFrame}
 use Rattle.nlme.specs.Nlme.{parent_address, nlme_ticked}
 use Rattle.operation.specs.Operation.{with_nlme, is_idle, asking, ending, scan_for, association_for, transmission_for, reception_for}
-use Rattle.operation.specs.declared.Purpose.{Purpose}
+use Rattle.operation.specs.declared.ReceptionFor.{ReceptionFor}
 use Rattle.operation.specs.declared.ScanFor.{ScanFor}
 use Rattle.operation.specs.declared.TransmissionFor.{TransmissionFor}
 use Rattle.operation.specs.declared.Phase.{Phase}
@@ -36,12 +36,12 @@ use Rattle.operation.specs.declared.Decision.{Decision}
 use Rattle.exchange.specs.Exchange.{tick_told, leave_taken, status_taken}
 use Rattle.join.specs.Join.{join_started, associated}
 use Rattle.join.specs.Rejoin.{rejoin_started, try_next, try_goes_on, request_sent}
-use Rattle.node.specs.Looks.{with_control, entries, parent, tried, next, moved, potential_cleared, finish, deciding}
+use Rattle.node.specs.Looks.{with_control, entries, parent, tried, next, moved, potential_cleared, deciding_with, deciding}
 use Rattle.node.specs.Refusals.{refuse, bad, start, outcome}
-use Rattle.node.specs.Calls.{with_chosen, associate, join_by, scan_failed, with_scan, rejoin_among, scan_heard, scan_over, association_over, continuing, go_on, taught_on, reception_over, transmission_over, Call, discovery, join, send, poll, receive, timeout, scan, association, transmission, reception, elapsed, take_leave, take_status, made, answer}
+use Rattle.node.specs.Calls.{with_chosen, associate, join_by, scan_failed, with_scan, rejoin_among, scan_heard, scan_decided, association_decided, continuing, go_on, taught_on, reception_decided, transmission_decided, Call, discovery, join, send, poll, receive, timeout, scan, association, transmission, reception, elapsed, take_leave, take_status, made, answer}
 use Rattle.node.specs.declared.State.{State}
 use Rattle.node.specs.declared.Answer.{Answer}
-use Rattle.two_nodes.specs.Statement.{shown, beacon_of, AlikeScan, failures, within, above-27, above-16, AlikeCall, same, scans, NoneUnderWay, Names, Allowed}
+use Rattle.two_nodes.specs.Statement.{shown, is_beacon_of, AlikeScan, failures, within, above-27, above-16, AlikeCall, same, scans, NoneUnderWay, Names, Allowed}
 use Rattle.two_nodes.proofs.Sight.{shows, choice_in}
 use Rattle.two_nodes.proofs.States.{Sight, sight, live_in, live, Tidy, Ours, tried_seen, next_seen, parent_in, tried-in, next-in, joins, written_in, written-sight, written-tidy, written_ours, chosen-sight, chosen-tidy, chosen-ours, heard-tidy, heard-list, learnt_in, sender, taught-sight, taught-tidy, taught-ours, bad_in, bad-is}
 use Rattle.two_nodes.proofs.Decisions.{never, OnPurpose, OnSend, OnScan, OnPhase, On, OnD, ending-on, try_next-on, answered_by-on, request_sent-on, rejoin_started-on, join_started-on, associated-on, answered-unseen, request-unseen}
@@ -140,7 +140,7 @@ module _ (n : ℕ) {s t : State} (a : Alike n s t) where
 
   kept-good : {d e : Decision} → d.candidate ≡ Move.Stay → d.clear_potential_parent ≡ false → On n d.control → (live d.control ≡ true → Tries n s t) → d ≡ e
       → Good n (deciding s d) (deciding t e)
-  unfolding finish
+  unfolding deciding_with
   kept-good {d} {e} p q on k z =
       subst (λ (x : Decision). Good n (deciding s d) (deciding t x)) z
       (good n (stays-near p q (record { alike = alike-control n a refl; tries = λ h. tries-control _ _ (k h); on = on })) refl refl refl refl)
@@ -181,7 +181,7 @@ module _ (n : ℕ) (some : n ≡ 0 → ⊥) {s t : State} (a : Alike n s t) (c :
         owned y = record { all = y.all }
 
   finish-good : {b : Bool} {d e : Decision} → OnD n b d → d ≡ e → Good n (deciding s d) (deciding t e)
-  unfolding finish
+  unfolding deciding_with
   finish-good {d = d} o q =
       subst (λ (x : Decision). Good n (deciding s d) (deciding t x)) q
       (good n (written-near d.clear_potential_parent d.candidate d.control o.kept o.ends) refl refl refl refl)
@@ -245,8 +245,8 @@ module _ (n : ℕ) (some : n ≡ 0 → ⊥) {s t : State} (a : Alike n s t) (c :
       (λ h. calm-good n a (on (next s)) h (unseen h (next s) (next t) ∙ (λ i. decide (alike-parent n a i) (next t) (a.control-same i))))
 
   -- the outcome of a rejoin request's send
-  transmission-good : (ok : Bool) (u : TransmissionFor) → OnSend n u s.control.operation.extended_pan_id.0 → Good n (transmission_over ok u s) (transmission_over ok u t)
-  unfolding transmission_over
+  transmission-good : (ok : Bool) (u : TransmissionFor) → OnSend n u s.control.operation.extended_pan_id.0 → Good n (transmission_decided ok u s) (transmission_decided ok u t)
+  unfolding transmission_decided
   transmission-good ok TransmissionFor.RejoinRequest e =
       try-good (request_sent ok) (request_sent-on n s.control e ok (parent s)) (λ f x y. request-unseen x y s.control f ok (parent s))
   transmission-good ok TransmissionFor.Data e = absurd e
@@ -254,12 +254,12 @@ module _ (n : ℕ) (some : n ≡ 0 → ⊥) {s t : State} (a : Alike n s t) (c :
   transmission-good ok (TransmissionFor.Leave l) e = absurd e
 
   -- what a poll was for goes on
-  go_on-good : (u : Purpose) (x : PollAnswer) → OnPurpose n u s.control.operation.extended_pan_id.0 → Good n (go_on false u x s) (go_on false u x t)
+  go_on-good : (u : ReceptionFor) (x : PollAnswer) → OnPurpose n u s.control.operation.extended_pan_id.0 → Good n (go_on false u x s) (go_on false u x t)
   unfolding continuing
-  go_on-good Purpose.RejoinResponse x e = try-good try_goes_on (answered_by-on n s.control e _ (parent s)) (λ f x y. answered-unseen x y s.control f _ (parent s))
-  go_on-good Purpose.SinglePoll x e = absurd e
-  go_on-good Purpose.SingleReceive x e = absurd e
-  go_on-good (Purpose.TimeoutResponse u) x e = absurd e
+  go_on-good ReceptionFor.RejoinResponse x e = try-good try_goes_on (answered_by-on n s.control e _ (parent s)) (λ f x y. answered-unseen x y s.control f _ (parent s))
+  go_on-good ReceptionFor.SinglePoll x e = absurd e
+  go_on-good ReceptionFor.SingleReceive x e = absurd e
+  go_on-good (ReceptionFor.TimeoutResponse u) x e = absurd e
 
 -- a frame teaches its sender's address
 module _ (n : ℕ) (f : ReceivedFrame) {s t : State} (a : Alike n s t) where
@@ -286,8 +286,8 @@ module _ (n : ℕ) (f : ReceivedFrame) {s t : State} (a : Alike n s t) where
 
 -- the outcome of a poll
 module _ (n : ℕ) (some : n ≡ 0 → ⊥) {s t : State} (a : Alike n s t) (c : s.control.operation.scan_requested ≡ true → Tries n s t) where
-  reception-good : (o : Result (Option ReceivedFrame) MacError) (u : Purpose) → OnPurpose n u s.control.operation.extended_pan_id.0 → Plain o → Good n (reception_over o u s) (reception_over o u t)
-  unfolding reception_over
+  reception-good : (o : Result (Option ReceivedFrame) MacError) (u : ReceptionFor) → OnPurpose n u s.control.operation.extended_pan_id.0 → Plain o → Good n (reception_decided o u s) (reception_decided o u t)
+  unfolding reception_decided
   reception-good (Ok None) u e w = go_on-good n some a c u _ e
   reception-good (Err x) u e w = go_on-good n some a c u _ e
   reception-good (Ok (Some f)) u e w =
@@ -303,7 +303,7 @@ module _ (n : ℕ) {s t : State} (a : Alike n s t) where
   scan_failed-good ScanFor.Discovery = ending-good n a _
   scan_failed-good ScanFor.Rejoin = ending-good n a _
 
-  heard-alike : (ds es : List PanDescriptor) → short_addressed ds ≤ 16 → short_addressed es ≤ 16 → select (beacon_of n) ds ≡ select (beacon_of n) es → Alike n (with_scan ds s) (with_scan es t)
+  heard-alike : (ds es : List PanDescriptor) → short_addressed ds ≤ 16 → short_addressed es ≤ 16 → select (is_beacon_of n) ds ≡ select (is_beacon_of n) es → Alike n (with_scan ds s) (with_scan es t)
   unfolding with_scan
   heard-alike ds es w v e =
       record {
@@ -324,14 +324,14 @@ module _ (n : ℕ) {s t : State} (a : Alike n s t) where
       (chosen-good n some false s.control.nlme.nib.capability_information a s.control.operation.extended_pan_id.0 e (try_next NlmeJoinStatus.NotPermitted) (try_next-on n s.control e _))
 
 module _ (n : ℕ) (some : n ≡ 0 → ⊥) {s t : State} (r : Near n s t) (u : ScanFor) (e : OnScan n u s.control.operation.extended_pan_id.0) where
-  scan_over-good : (x y : Result PanDescriptorList MacError) → AlikeScan n x y → Good n (scan_over x u s) (scan_over y u t)
-  unfolding scan_over with_scan
-  scan_over-good x y (failures e f) = scan_failed-good n r.alike u
-  scan_over-good x y (above-27 {l} {m} a b) = rw (lt-ltb 27 l.count a, lt-ltb 27 m.count b) (refuse-good n TooManyDescriptors r)
-  scan_over-good x y (above-16 {l} {m} a b c d) =
+  scan_decided-good : (x y : Result PanDescriptorList MacError) → AlikeScan n x y → Good n (scan_decided x u s) (scan_decided y u t)
+  unfolding scan_decided with_scan
+  scan_decided-good x y (failures e f) = scan_failed-good n r.alike u
+  scan_decided-good x y (above-27 {l} {m} a b) = rw (lt-ltb 27 l.count a, lt-ltb 27 m.count b) (refuse-good n TooManyDescriptors r)
+  scan_decided-good x y (above-16 {l} {m} a b c d) =
       rw (le-ltb 27 l.count a, le-ltb 27 m.count b, lt-ltb 16 (short_addressed (descriptors_of l)) c, lt-ltb 16 (short_addressed (descriptors_of m)) d)
       (refuse-good n TooManyShortAddressed r)
-  scan_over-good x y (within {l} {m} a b c d h) =
+  scan_decided-good x y (within {l} {m} a b c d h) =
       rw (le-ltb 27 l.count a, le-ltb 27 m.count b, le-ltb 16 (short_addressed (descriptors_of l)) c, le-ltb 16 (short_addressed (descriptors_of m)) d)
       (scan_heard-good n (heard-alike n r.alike (descriptors_of l) (descriptors_of m) c d h) some u e)
 
@@ -371,16 +371,16 @@ module _ (n : ℕ) (some : n ≡ 0 → ⊥) {s t : State} (r : Near n s t) where
   abbrev after_scan : Bool
   after_scan = s.control.operation.scan_requested
 
-  scan_good : (x y : Result PanDescriptorList MacError) → AlikeScan n x y → (p : Phase) → OnPhase n p id → Good n (outcome (scan_for p) (scan_over x) s) (outcome (scan_for p) (scan_over y) t)
+  scan_good : (x y : Result PanDescriptorList MacError) → AlikeScan n x y → (p : Phase) → OnPhase n p id → Good n (outcome (scan_for p) (scan_decided x) s) (outcome (scan_for p) (scan_decided y) t)
   unfolding outcome
-  scan_good x y l (Phase.Scan u) e = scan_over-good n some r u e x y l
+  scan_good x y l (Phase.Scan u) e = scan_decided-good n some r u e x y l
   scan_good x y l Phase.Idle e = refuse-good n NotAwaited r
   scan_good x y l Phase.Association e = refuse-good n NotAwaited r
   scan_good x y l (Phase.Transmission u) e = refuse-good n NotAwaited r
   scan_good x y l (Phase.Reception u) e = refuse-good n NotAwaited r
 
   association-good : (o : Result AssociationResponse MacError) (p : Phase) → (live_in p after_scan ≡ true → Tries n s t)
-      → Good n (outcome (association_for p) (association_over o) s) (outcome (association_for p) (association_over o) t)
+      → Good n (outcome (association_for p) (association_decided o) s) (outcome (association_for p) (association_decided o) t)
   unfolding outcome
   association-good o Phase.Association k =
       let a = r.alike in
@@ -391,7 +391,7 @@ module _ (n : ℕ) (some : n ≡ 0 → ⊥) {s t : State} (r : Near n s t) where
   association-good o (Phase.Reception u) k = refuse-good n NotAwaited r
 
   sent-good : (ok : Bool) (p : Phase) → (live_in p after_scan ≡ true → Tries n s t) → OnPhase n p id
-      → Good n (outcome (transmission_for p) (transmission_over ok) s) (outcome (transmission_for p) (transmission_over ok) t)
+      → Good n (outcome (transmission_for p) (transmission_decided ok) s) (outcome (transmission_for p) (transmission_decided ok) t)
   unfolding outcome
   sent-good ok (Phase.Transmission u) k e = transmission-good n some r.alike k ok u e
   sent-good ok Phase.Idle k e = refuse-good n NotAwaited r
@@ -399,8 +399,8 @@ module _ (n : ℕ) (some : n ≡ 0 → ⊥) {s t : State} (r : Near n s t) where
   sent-good ok Phase.Association k e = refuse-good n NotAwaited r
   sent-good ok (Phase.Reception u) k e = refuse-good n NotAwaited r
 
-  received-good : (o : Result (Option ReceivedFrame) MacError) (p : Phase) → (live_in p after_scan ≡ true → Tries n s t) → OnPhase n p id → ((u : Purpose) → p ≡ Phase.Reception u → Plain o)
-      → Good n (outcome (reception_for p) (reception_over o) s) (outcome (reception_for p) (reception_over o) t)
+  received-good : (o : Result (Option ReceivedFrame) MacError) (p : Phase) → (live_in p after_scan ≡ true → Tries n s t) → OnPhase n p id → ((u : ReceptionFor) → p ≡ Phase.Reception u → Plain o)
+      → Good n (outcome (reception_for p) (reception_decided o) s) (outcome (reception_for p) (reception_decided o) t)
   unfolding outcome
   received-good o (Phase.Reception u) k e w = reception-good n some r.alike k o u e (w u refl)
   received-good o Phase.Idle k e w = refuse-good n NotAwaited r

@@ -14,7 +14,7 @@ use Rattle.management.specs.declared.NlmeJoinStatus.{NlmeJoinStatus}
 use Rattle.management.specs.declared.NlmeJoinRequest.{NlmeJoinRequest}
 use Rattle.management.specs.declared.RejoinResponse.{RejoinResponse}
 use Rattle.operation.specs.Operation.{ending, with_polls_left, polled_or, polling, poll_on}
-use Rattle.operation.specs.declared.Purpose.{Purpose}
+use Rattle.operation.specs.declared.ReceptionFor.{ReceptionFor}
 use Rattle.operation.specs.declared.ScanFor.{ScanFor}
 use Rattle.operation.specs.declared.TransmissionFor.{TransmissionFor}
 use Rattle.operation.specs.declared.Phase.{Phase}
@@ -35,11 +35,11 @@ never true p q = absurd (false≢true (sym p))
 never false p q = absurd (false≢true q)
 
 -- a rejoin under way is of the network n, where k is the id that it keeps; sends, polls, negotiation, keepalive and leaves are not under way
-abbrev pub OnPurpose : ℕ → Purpose → ℕ → Type 0
-OnPurpose n Purpose.RejoinResponse k = k ≡ n
-OnPurpose n Purpose.SinglePoll k = ⊥
-OnPurpose n Purpose.SingleReceive k = ⊥
-OnPurpose n (Purpose.TimeoutResponse u) k = ⊥
+abbrev pub OnPurpose : ℕ → ReceptionFor → ℕ → Type 0
+OnPurpose n ReceptionFor.RejoinResponse k = k ≡ n
+OnPurpose n ReceptionFor.SinglePoll k = ⊥
+OnPurpose n ReceptionFor.SingleReceive k = ⊥
+OnPurpose n (ReceptionFor.TimeoutResponse u) k = ⊥
 
 abbrev pub OnSend : ℕ → TransmissionFor → ℕ → Type 0
 OnSend n TransmissionFor.RejoinRequest k = k ≡ n
@@ -124,11 +124,11 @@ module _ (n : ℕ) where
     try_failed-on st x = by_cases (OnD n c.operation.scan_requested) c.operation.scan_requested (after-scan c.operation.scan_requested (try_next-on st x)) (scan_or_end-on c e st)
 
   module _ (c : Control) (e : c.operation.extended_pan_id.0 ≡ n) where
-    polls-on : (p x : Option NwkNeighbor) → OnD n c.operation.scan_requested (poll_on Purpose.RejoinResponse p (try_failed NlmeJoinStatus.MacError x) c)
+    polls-on : (p x : Option NwkNeighbor) → OnD n c.operation.scan_requested (poll_on ReceptionFor.RejoinResponse p (try_failed NlmeJoinStatus.MacError x) c)
     unfolding polling poll_on
     polls-on None x = try_failed-on (with_polls_left 0 c) e _ x
     polls-on (Some p) x =
-        by_cases (λ (y : Polling). OnD n c.operation.scan_requested (polled_or Purpose.RejoinResponse (try_failed NlmeJoinStatus.MacError x) y.parent y.control))
+        by_cases (λ (y : Polling). OnD n c.operation.scan_requested (polled_or ReceptionFor.RejoinResponse (try_failed NlmeJoinStatus.MacError x) y.parent y.control))
         (eqb c.operation.polls_left 0) (λ _. try_failed-on c e _ x)
         (record { kept = e; ends = λ h. absurd (false≢true h); calm = λ f. record { stays = refl; uncleared = refl; dead = f } })
 
@@ -178,11 +178,11 @@ module _ (x y : Option NwkNeighbor) where
   failed-unseen st c f = cond-false c.operation.scan_requested _ _ f ∙ sym (cond-false c.operation.scan_requested _ _ f)
 
   module _ (c : Control) (f : c.operation.scan_requested ≡ false) where
-    polls-unseen : (p : Option NwkNeighbor) → poll_on Purpose.RejoinResponse p (try_failed NlmeJoinStatus.MacError x) c ≡ poll_on Purpose.RejoinResponse p (try_failed NlmeJoinStatus.MacError y) c
+    polls-unseen : (p : Option NwkNeighbor) → poll_on ReceptionFor.RejoinResponse p (try_failed NlmeJoinStatus.MacError x) c ≡ poll_on ReceptionFor.RejoinResponse p (try_failed NlmeJoinStatus.MacError y) c
     unfolding polling poll_on
     polls-unseen None = failed-unseen _ (with_polls_left 0 c) f
     polls-unseen (Some p) =
-        by_cases (λ (z : Polling). polled_or Purpose.RejoinResponse (try_failed NlmeJoinStatus.MacError x) z.parent z.control ≡ polled_or Purpose.RejoinResponse (try_failed NlmeJoinStatus.MacError y) z.parent z.control)
+        by_cases (λ (z : Polling). polled_or ReceptionFor.RejoinResponse (try_failed NlmeJoinStatus.MacError x) z.parent z.control ≡ polled_or ReceptionFor.RejoinResponse (try_failed NlmeJoinStatus.MacError y) z.parent z.control)
         (eqb c.operation.polls_left 0) (λ _. failed-unseen _ c f) refl
 
     pub answered-unseen : (a : Option RejoinResponse) (p : Option NwkNeighbor) → answered_by a p x c ≡ answered_by a p y c

@@ -28,9 +28,9 @@ use Rattle.operation.specs.declared.RadioRequest.TheVariants.{Scan, Associate, T
 use Rattle.operation.specs.declared.Step.{Step}
 use Rattle.operation.specs.declared.Step.TheVariants.{Refused, Ask, Discovered, Joined, StatusTaken}
 use Rattle.node.specs.Beginning.{new_state}
-use Rattle.node.specs.Looks.{with_control, entries, moved, potential_cleared, finish}
+use Rattle.node.specs.Looks.{with_control, entries, moved, potential_cleared, deciding_with}
 use Rattle.node.specs.Refusals.{refuse, bad, outcome}
-use Rattle.node.specs.Calls.{with_chosen, associate, join_by, with_scan, scan_heard, scan_over, continuing, table_changed, after, reception_over, transmission_over, Call, discovery, join, scan, transmission, reception, take_status, answer}
+use Rattle.node.specs.Calls.{with_chosen, associate, join_by, with_scan, scan_heard, scan_decided, continuing, table_changed, after_frame, reception_decided, transmission_decided, Call, discovery, join, scan, transmission, reception, take_status, answer}
 use Rattle.candidates.specs.Tries.{parent_in, tried_index, skipped, next_index, next_in, past_table, taking, adopted_next}
 use Rattle.nib.specs.NeighborTable.{found, ieee_of, parent_of, on_entries, learnt, marked, adopted, retained}
 use Rattle.candidates.specs.Candidates.{eligible, depth_at, candidates}
@@ -295,7 +295,7 @@ is_leave (Ok (Some (ReceivedFrame.OtherCommand s))) = false
 is_leave (Ok (Some ReceivedFrame.OtherFrame)) = false
 
 computed : Computed
-unfolding new_state new_nlme answer bad refuse outcome moved potential_cleared finish with_chosen associate join_by with_scan scan_heard scan_over continuing table_changed after reception_over transmission_over parent_in tried_index skipped next_index next_in past_table taking adopted_next found ieee_of parent_of on_entries learnt marked adopted retained eligible depth_at candidates newer newest potential_parent_of entry_of neighbor_by present neighbors_of associating join_started failed_status invalid trying scan_or_end try_remembered rejoin_started try_candidate try_next try_failed rejoined responded answered_by polling poll_on request_sent taught_by taught rejoin_responded neighbor_left accepts_leave announcement leave_requested leave_handled handled negotiation_reset command_header link_cost shown flat_map
+unfolding new_state new_nlme answer bad refuse outcome moved potential_cleared deciding_with with_chosen associate join_by with_scan scan_heard scan_decided continuing table_changed after_frame reception_decided transmission_decided parent_in tried_index skipped next_index next_in past_table taking adopted_next found ieee_of parent_of on_entries learnt marked adopted retained eligible depth_at candidates newer newest potential_parent_of entry_of neighbor_by present neighbors_of associating join_started failed_status invalid trying scan_or_end try_remembered rejoin_started try_candidate try_next try_failed rejoined responded answered_by polling poll_on request_sent taught_by taught rejoin_responded neighbor_left accepts_leave announcement leave_requested leave_handled handled negotiation_reset command_header link_cost shown flat_map
 computed =
     record {
       joins-past = refl;

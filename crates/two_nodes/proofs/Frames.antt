@@ -6,9 +6,9 @@ use Rattle.management.specs.declared.PollAnswer.{PollAnswer}
 use Rattle.management.specs.declared.frame.ReceivedFrame.{ReceivedFrame}
 use Rattle.nlme.specs.declared.Nlme.{Nlme}
 use Rattle.nlme.specs.Received.{rejoin_responded, timeout_responded, handled}
-use Rattle.operation.specs.declared.Purpose.{Purpose}
+use Rattle.operation.specs.declared.ReceptionFor.{ReceptionFor}
 use Rattle.operation.specs.declared.Phase.{Phase}
-use Rattle.node.specs.Calls.{go_on, with_node, table_changed, after, processed}
+use Rattle.node.specs.Calls.{go_on, with_node, table_changed, after_frame, processed}
 use Rattle.node.specs.declared.State.{State}
 use Rattle.two_nodes.specs.Statement.{NoLeave}
 use Rattle.discovery.specs.declared.mlme.MacError.{MacError}
@@ -27,7 +27,7 @@ Plain (Ok None) = Unit {0}
 Plain (Err e) = Unit {0}
 Plain (Ok (Some f)) = PlainFrame f
 
-pub plain_of : (s : State) (o : Result (Option ReceivedFrame) MacError) → NoLeave s o → (u : Purpose) → s.control.operation.phase ≡ Phase.Reception u → Plain o
+pub plain_of : (s : State) (o : Result (Option ReceivedFrame) MacError) → NoLeave s o → (u : ReceptionFor) → s.control.operation.phase ≡ Phase.Reception u → Plain o
 plain_of s (Ok None) w u q = tt
 plain_of s (Err e) w u q = tt
 plain_of s (Ok (Some ReceivedFrame.Undecodable)) w u q = tt
@@ -56,8 +56,8 @@ says (ReceivedFrame.LeaveCommand f d o) = PollAnswer.PollNothing
 says (ReceivedFrame.OtherCommand f) = PollAnswer.PollNothing
 says ReceivedFrame.OtherFrame = PollAnswer.PollNothing
 
-pub processed-is : (u : Purpose) (f : ReceivedFrame) (s : State) → PlainFrame f → processed u f s ≡ go_on false u (says f) (with_node (nlme_after f s.control.nlme) s)
-unfolding handled after table_changed
+pub processed-is : (u : ReceptionFor) (f : ReceivedFrame) (s : State) → PlainFrame f → processed u f s ≡ go_on false u (says f) (with_node (nlme_after f s.control.nlme) s)
+unfolding handled after_frame table_changed
 processed-is u ReceivedFrame.Undecodable s w = refl
 processed-is u (ReceivedFrame.Data f) s w = refl
 processed-is u (ReceivedFrame.RejoinResponseCommand f r) s w = refl

@@ -34,7 +34,7 @@ use Rattle.discovery.specs.declared.mlme.Address.TheVariants.{Short, Extended}
 use Rattle.discovery.specs.declared.mlme.PanDescriptor.{PanDescriptor}
 use Rattle.discovery.specs.Discovery.{entry_of, neighbor_by, present, neighbors_of}
 use Rattle.discovery.proofs.Scans.{network-neighbors}
-use Rattle.two_nodes.specs.Statement.{beacon_of}
+use Rattle.two_nodes.specs.Statement.{is_beacon_of}
 
 -- WHAT NETWORK n SEES
 
@@ -222,7 +222,7 @@ new-visible n (e ∷ es) h =
     split (of_network n e) (λ t. rw t (ap (λ (z : List NwkNeighbor). e ∷ z) ih)) (λ t. rw (t, h.0.1) ih)
 
 -- of a scan's table network n sees what its own beacons tell
-pub scan-shows : (n : ℕ) (ds : List PanDescriptor) → shows n (neighbors_of ds) ≡ neighbors_of (select (beacon_of n) ds)
+pub scan-shows : (n : ℕ) (ds : List PanDescriptor) → shows n (neighbors_of ds) ≡ neighbors_of (select (is_beacon_of n) ds)
 unfolding shows
 scan-shows n ds =
     let new = all_new ds in
@@ -275,6 +275,8 @@ module _ (profile : ℕ) (router permit : Bool) (n : ℕ) (some : n ≡ 0 → �
       let t = marked-of (of_network n) es i blank m.0 (and_left _ _ m.1) in
       ap depth_of (at-rank (of_network n) es i blank t) ∙ sym (get_or-map depth_of own (rank (marks n es) i) blank))
 
+  -- the ranks of the candidates among the network's entries are the choice on these entries alone: the same are eligible, and the order by depth goes
+  -- through the ranks
   pub choice-shows : map (rank (marks n es)) (candidates profile router permit n es) ≡ choice_in profile router permit n (shows n es)
   unfolding candidates
   choice-shows =

@@ -45,7 +45,7 @@ use Rattle.node.specs.Refusals.{past_in, bad}
 use Rattle.node.specs.Calls.{with_chosen, with_scan, taught_on}
 use Rattle.nlme.specs.Received.{taught_by, taught}
 use Rattle.node.specs.declared.State.{State}
-use Rattle.two_nodes.specs.Statement.{beacon_of}
+use Rattle.two_nodes.specs.Statement.{is_beacon_of}
 use Rattle.two_nodes.proofs.Sight.{shows, marks, Placed, nowhere, placed_at, parent-shows, entry-shows, changed-shows, adopted_in, adopted-shows, adopted-marks, joined_in, joined-shows, joined-ranks, learnt-shows, learnt-marks, scan-shows, choice_in, choice-ours, choice-shows}
 use Rattle.nib.specs.declared.IeeeAddress.{IeeeAddress}
 
@@ -358,7 +358,7 @@ module _ (ds : List PanDescriptor) (s : State) (within : short_addressed ds ≤ 
   unfolding with_scan
   heard-tidy h = record { small = within; few = h }
 
-  pub heard-list : (n : ℕ) → shows n (entries (with_scan ds s)) ≡ neighbors_of (select (beacon_of n) ds)
+  pub heard-list : (n : ℕ) → shows n (entries (with_scan ds s)) ≡ neighbors_of (select (is_beacon_of n) ds)
   heard-list n = ap (shows n) heard-entries ∙ scan-shows n ds
 
 -- a frame teaches its sender's address

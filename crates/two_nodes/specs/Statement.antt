@@ -12,7 +12,7 @@ use Rattle.management.specs.declared.frame.Source.{Source}
 use Rattle.management.specs.declared.frame.LeaveOptions.{LeaveOptions}
 use Rattle.management.specs.declared.frame.ReceivedFrame.{ReceivedFrame}
 use Rattle.nlme.specs.Nlme.{parent_address}
-use Rattle.operation.specs.declared.Purpose.{Purpose}
+use Rattle.operation.specs.declared.ReceptionFor.{ReceptionFor}
 use Rattle.operation.specs.declared.Phase.{Phase}
 use Rattle.operation.specs.declared.Control.{Control}
 use Rattle.operation.specs.declared.Note.{Note}
@@ -54,15 +54,15 @@ run s [] = []
 run s (c ∷ cs) = shown (answer s c) ∷ run (answer s c).state cs
 
 -- "Its beacons are the scan's descriptors with that id."
-abbrev pub beacon_of : ℕ → PanDescriptor → Bool
-beacon_of n d = eqb d.zigbee_beacon.extended_pan_id.0 n
+abbrev pub is_beacon_of : ℕ → PanDescriptor → Bool
+is_beacon_of n d = eqb d.zigbee_beacon.extended_pan_id.0 n
 
 -- "Scan outcomes at the same place are equal failures; or both within 27 and 16, the network's beacons equal in every field and in order; or both above 27;
 -- or both within 27 with above 16 short-addressed."
 pub data AlikeScan (n : ℕ) : Result PanDescriptorList MacError → Result PanDescriptorList MacError → Type 0 where
   failures : (e f : MacError) → AlikeScan n (Err e) (Err f)
   within : {l m : PanDescriptorList} → l.count ≤ 27 → m.count ≤ 27 → short_addressed (descriptors_of l) ≤ 16 → short_addressed (descriptors_of m) ≤ 16
-      → select (beacon_of n) (descriptors_of l) ≡ select (beacon_of n) (descriptors_of m) → AlikeScan n (Ok l) (Ok m)
+      → select (is_beacon_of n) (descriptors_of l) ≡ select (is_beacon_of n) (descriptors_of m) → AlikeScan n (Ok l) (Ok m)
   above-27 : {l m : PanDescriptorList} → 27 < l.count → 27 < m.count → AlikeScan n (Ok l) (Ok m)
   above-16 : {l m : PanDescriptorList} → l.count ≤ 27 → m.count ≤ 27
       → 16 < short_addressed (descriptors_of l) → 16 < short_addressed (descriptors_of m) → AlikeScan n (Ok l) (Ok m)
@@ -84,7 +84,7 @@ NoneUnderWay s = s.control.operation.phase ≡ Phase.Idle
 -- (`asked-with`; compare/traces/x2-request-first.in). The premise is wider than these need. A leave is handled where a poll or receive is awaited
 abbrev pub NoLeave : State → Result (Option ReceivedFrame) MacError → Type 0
 NoLeave s o =
-    (f : Source) (d : ShortAddress) (l : LeaveOptions) (u : Purpose) → o ≡ Ok (Some (ReceivedFrame.LeaveCommand f d l))
+    (f : Source) (d : ShortAddress) (l : LeaveOptions) (u : ReceptionFor) → o ≡ Ok (Some (ReceivedFrame.LeaveCommand f d l))
     → s.control.operation.phase ≡ Phase.Reception u → ⊥
 
 -- "The network is the non-zero extended PAN id named by the join or rejoin that is called with no operation under way,

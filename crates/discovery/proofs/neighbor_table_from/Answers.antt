@@ -4,8 +4,9 @@ use mathlib.Core.List.{List, flat_map}
 use Rattle.nib.specs.Neighbors.{table_of, pushed}
 use Rattle.nib.specs.declared.NeighborTable.{NeighborTable}
 use Rattle.nib.specs.declared.NwkNeighbor.{NwkNeighbor}
+use Rattle.discovery.specs.Mlme.{blank_beacon}
 use Rattle.discovery.specs.Discovery.{present, neighbors_of}
-use Rattle.discovery.proofs.Scans.{no_descriptor, neighbors-next, pushed-next}
+use Rattle.discovery.proofs.Scans.{neighbors-next, pushed-next}
 use Rattle.discovery.proofs.neighbor_table_from.Goals as goal
 use Rattle.discovery.proofs.neighbor_table_from.Goals.{in-Some, in_default}
 
@@ -19,7 +20,7 @@ unfolding present
 loop-pd-preserved c =
     let l = c.descriptors_in_use-pd-items.result.now in
     let i = c.loop-pd.pd-index in
-    let e = neighbors-next l i no_descriptor c.loop-pd-test.true in
+    let e = neighbors-next l i blank_beacon c.loop-pd-test.true in
     elim c.match-neighbor_from.branch [
       | in-Some w ↦ w.table-is ∙ w.add.ensures ∙ ap (λ (t : NeighborTable). pushed t w.in-Some.e) c.loop-pd.invariant ∙ pushed-next (neighbors_of (take i l)) w.in-Some.e
           ∙ ap (λ (z : List NwkNeighbor). table_of (take 16 z)) (sym (e ∙ rw (sym c.neighbor_from.ensures ∙ w.in-Some.is)))

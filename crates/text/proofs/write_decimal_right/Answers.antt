@@ -10,6 +10,7 @@ use Rattle.text.proofs.Numbers.{right-filled, spaces-taken}
 use borrow.Author.Rules.{rules}
 use Rattle.text.proofs.write_decimal_right.Goals as goal
 
+-- ten bytes of spaces with the digits at their end (q): the last of them are the text right-aligned (r), and they are what is written (e)
 pub returns : goal.returns
 returns c =
     let x = c.fill_decimal.new.bytes in

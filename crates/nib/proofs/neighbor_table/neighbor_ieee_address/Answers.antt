@@ -7,4 +7,4 @@ use Rattle.nib.proofs.neighbor_table.neighbor_ieee_address.Goals as goal
 
 pub returns : goal.returns
 unfolding ieee_of
-returns c = rw (found-find c.args.address.0 (entries_of c.args.table)) (search rules)
+returns c = rw (found-find c.args.address.0 (entries_of c.args.table.now)) (search rules)

@@ -6,4 +6,4 @@ use Rattle.nib.specs.NeighborTable.{is_parent}
 use Rattle.nib.proofs.neighbor_table.parent_index.Goals as goal
 
 pub returns : goal.returns
-returns c = rw (← first-found is_parent (entries_of c.args.table)) (search rules)
+returns c = rw (← first-found is_parent (entries_of c.args.table.now)) (search rules)

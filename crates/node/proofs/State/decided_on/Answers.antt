@@ -3,7 +3,7 @@ use mathlib.Core.Path.{◌≡◌, sym, ap, ◌∙◌}
 use mathlib.Core.Bool.{false}
 use lib.ListN.{length}
 use Rattle.node.specs.declared.State.{State}
-use Rattle.node.specs.Looks.{entries, moved, potential_cleared, answered, finish}
+use Rattle.node.specs.Looks.{entries, moved, potential_cleared, answered, deciding_with}
 use Rattle.node.proofs.Writes.{clear-is, keep-is, clear-long, stay-is, take-is, adopt-is, join_is}
 use Rattle.node.proofs.State.decided_on.Goals as goal
 use Rattle.node.proofs.State.decided_on.Goals.{then-decision, else-decision, in-Stay, in-TakeNext, in-AdoptNext, in-JoinTried}
@@ -11,7 +11,7 @@ use Rattle.node.proofs.State.decided_on.Goals.{then-decision, else-decision, in-
 -- `after-clear`: the state once the candidate being tried is no potential parent, if so decided.
 -- `after-move`: the state once the candidates are as decided
 pub returns : goal.returns
-unfolding finish
+unfolding deciding_with
 returns c =
     let a = c.args in
     let n = c.len-count.result in

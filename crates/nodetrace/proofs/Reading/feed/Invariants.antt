@@ -1,4 +1,5 @@
--- `Reading::feed` promises nothing of its own: what is shown is that no index is out of range, and that the loop ends, since each turn goes on by a byte or more.
+-- `Reading::feed` promises nothing of its own: what is shown is that no index is out of range, and that the loop ends, since each turn goes on by a byte or
+-- more.
 use Rattle.std.proofs.Common.{length, ◌-◌}
 use Rattle.nodetrace.proofs.Reading.feed.Given as goal
 

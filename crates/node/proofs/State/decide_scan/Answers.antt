@@ -1,4 +1,4 @@
--- `State::scan_listed` meets its contract. Assumes nothing.
+-- `State::decide_scan` meets its contract. Assumes nothing.
 use mathlib.Core.Path.{◌≡◌, sym, ap, ◌∙◌}
 use mathlib.Core.Bool.{false}
 use lib.Dec.{ltb}
@@ -13,36 +13,36 @@ use Rattle.discovery.specs.declared.mlme.MacError.{MacError}
 use Rattle.discovery.specs.declared.mlme.PanDescriptorList.{PanDescriptorList}
 use Rattle.discovery.proofs.Scans.{neighbors-all}
 use Rattle.node.specs.Looks.{with_table}
-use Rattle.node.specs.Calls.{with_scan, scan_heard, scan_over}
-use Rattle.node.proofs.State.scan_listed.Goals as goal
+use Rattle.node.specs.Calls.{with_scan, scan_heard, scan_decided}
+use Rattle.node.proofs.State.decide_scan.Goals as goal
 
 -- the outcome is this list
 pub returns-then-list-gt-MAX_PAN_DESCRIPTOR_SIZE : goal.returns-then-list-gt-MAX_PAN_DESCRIPTOR_SIZE
-unfolding scan_over
+unfolding scan_decided
 returns-then-list-gt-MAX_PAN_DESCRIPTOR_SIZE c =
     let l = c.in-Ok.list in
     c.refuse.ensures
-    ∙ sym (ap (λ (o : Result PanDescriptorList MacError). scan_over o c.args.purpose c.args.self) c.in-Ok.is
+    ∙ sym (ap (λ (o : Result PanDescriptorList MacError). scan_decided o c.args.purpose c.args.self) c.in-Ok.is
     ∙ cond-true (ltb 27 l.count) _ _ (lt-ltb 27 l.count c.if-list-gt-MAX_PAN_DESCRIPTOR_SIZE.true))
 
 pub returns-then-short_addressed-gt-MAX_SHORT_ADDRESSED : goal.returns-then-short_addressed-gt-MAX_SHORT_ADDRESSED
-unfolding scan_over
+unfolding scan_decided
 returns-then-short_addressed-gt-MAX_SHORT_ADDRESSED c =
     let l = c.in-Ok.list in
     let n = short_addressed (descriptors_of l) in
     c.refuse-then-short_addressed-gt-MAX_SHORT_ADDRESSED.ensures
-    ∙ sym (ap (λ (o : Result PanDescriptorList MacError). scan_over o c.args.purpose c.args.self) c.in-Ok.is
+    ∙ sym (ap (λ (o : Result PanDescriptorList MacError). scan_decided o c.args.purpose c.args.self) c.in-Ok.is
     ∙ cond-false (ltb 27 l.count) _ _ (le-ltb 27 l.count c.if-list-gt-MAX_PAN_DESCRIPTOR_SIZE.false)
     ∙ cond-true (ltb 16 n) _ _ (ap (ltb 16) (sym c.short_addressed.ensures) ∙ lt-ltb 16 _ c.if-short_addressed-gt-MAX_SHORT_ADDRESSED.true))
 
 pub returns : goal.returns
-unfolding scan_over with_scan
+unfolding scan_decided with_scan
 returns c =
     let l = c.in-Ok.list in
     let n = short_addressed (descriptors_of l) in
     let few : ltb 16 n ≡ false = ap (ltb 16) (sym c.short_addressed.ensures) ∙ le-ltb 16 _ c.if-short_addressed-gt-MAX_SHORT_ADDRESSED.false in
     let made = c.neighbor_table_from-self.ensures ∙ ap table_of (neighbors-all (descriptors_of l) (ltb-false 16 n few)) in
     c.scan_heard.ensures ∙ ap (λ (t : NeighborTable). scan_heard c.args.purpose (with_table t c.args.self)) made
-    ∙ sym (ap (λ (o : Result PanDescriptorList MacError). scan_over o c.args.purpose c.args.self) c.in-Ok.is
+    ∙ sym (ap (λ (o : Result PanDescriptorList MacError). scan_decided o c.args.purpose c.args.self) c.in-Ok.is
     ∙ cond-false (ltb 27 l.count) _ _ (le-ltb 27 l.count c.if-list-gt-MAX_PAN_DESCRIPTOR_SIZE.false)
     ∙ cond-false (ltb 16 n) _ _ few)
