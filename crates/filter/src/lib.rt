@@ -1,19 +1,31 @@
 // What every program does at its edges: an argument asks for the usage, standard input is read, standard output is written. What fails is told of on standard
-// error, as PROGRAM: standard input: REASON.
+// error, as PROGRAM: standard input: REASON, and the program ends with status 1.
 #![tactic(auto)]
 
 ghost use Rattle.std.specs.Prelude.{◌≡◌, ◌≤◌};
 ghost use Rattle.std.specs.Io.{ReadsAtMost};
-ghost use Rattle.filter.specs.Edges.{has_argument, Written, Within};
+ghost use Rattle.std.specs.Process.{exit_status};
+ghost use Rattle.filter.specs.Edges.{Asked, Written, Within, status_of};
 
 use std::env::{Env, FillError};
 use std::fmt::Display;
 use std::io;
 use std::io::{ErrorKind, Read};
+use std::process::ExitCode;
 
 // A read or a write failed. Standard error was told why, unless it was that nobody reads a pipe any more.
 #[derive(Clone, Copy, Debug, PartialEq, Eq)]
 pub struct Failed;
+
+// The status that a program ends with: 0, or 1 where a read or a write failed.
+pub fn status(done: Result<(), Failed>) -> ExitCode
+    ensures { exit_status result ≡ status_of done }
+{
+    match done {
+        Ok(()) => ExitCode::SUCCESS,
+        Err(Failed) => ExitCode::FAILURE,
+    }
+}
 
 // What an error's text says in words: the system's errors have their number in brackets behind it.
 fn in_words(text: &str) -> &str {
@@ -66,14 +78,14 @@ impl<R: Print + Eprint + Alloc> Edges<'_, R> {
 
     // Prints the usage if the program has an argument, and answers whether it has: then there is nothing to read. The first of the words that it was started
     // with (`word_count`) is its own name.
-    pub fn print_usage(&self, words: usize, usage: &[u8]) -> bool
-        ensures { result ≡ has_argument words }
+    pub fn print_usage(&self, words: usize, usage: &[u8]) -> Result<bool, Failed>
+        ensures { Asked words result }
     {
         if words <= 1 {
-            return false;
+            return Ok(false);
         }
-        let _ = self.write(usage);
-        true
+        self.write(usage)?;
+        Ok(true)
     }
 }
 

@@ -58,9 +58,12 @@ pub fn tick_with(timer: ParentTimer, state: State, elapsed_ms: u32) -> LentTicke
 }
 
 // The timer interrupt lends its record and finds it updated there. The lent record counts in place of the state's own, which is not looked at: so whoever keeps
-// a record of his own loads it anew from `state.control.nlme.parent_timer` after every call that may set the timer: `join`, `transmission_over`,
-// `reception_over` and `refresh_parent_timeout`. A join zeroes only the state's own: an old record would count on, and signal a failure that is none. A tick is
-// a call as any other: it may come between any two calls, also while an operation is under way, and not while another call on the state is still running.
+// a record of his own loads it anew from `state.control.nlme.parent_timer` of the answer after every call. At least he does so after those that may set the
+// timer: `join`, `transmission_over`, `reception_over` and `refresh_parent_timeout`. A join zeroes only the state's own: an old record would count on, and
+// signal a failure that is none. The state that is answered is kept as after any call: it holds the timer too, and the indication of an expiry.
+//
+// A tick is a call as any other: it may come between any two calls, also while an operation is under way, and not while another call on the state is still
+// running. One that comes then is made after it. Several that waited may be made as one, with the sum of their milliseconds.
 pub fn tick_lent(timer: &mut ParentTimer, state: State, elapsed_ms: u32) -> Answer
     ensures { (result ≡ (lent_tick timer.old elapsed_ms state).answer) × (timer.new ≡ (lent_tick timer.old elapsed_ms state).timer) }
 {

@@ -48,7 +48,7 @@ pub struct NlmeJoinRequest {
 }
 
 // How a join ended.
-#[derive(Clone, Copy)]
+#[derive(Clone, Copy, Debug, PartialEq, Eq)]
 pub enum NlmeJoinStatus {
     // the device has joined
     Success,
@@ -81,7 +81,7 @@ pub struct NlmeJoinConfirm {
 }
 
 // The answer to a send. An enum of its own: a send can answer just these, and a `Result` with one error enum for all would list errors that it can't give.
-#[derive(Clone, Copy)]
+#[derive(Clone, Copy, Debug, PartialEq, Eq)]
 pub enum SendAnswer {
     // the frame was sent
     SendOk,
@@ -94,7 +94,7 @@ pub enum SendAnswer {
 }
 
 // The answer to a poll or a receive, which can answer just these: an enum of its own, as a send has.
-#[derive(Clone, Copy)]
+#[derive(Clone, Copy, Debug, PartialEq, Eq)]
 pub enum PollAnswer {
     // a data frame came
     PollData,
@@ -109,7 +109,7 @@ pub enum PollAnswer {
 }
 
 // The answer to a negotiation, which can answer just these: an enum of its own, as a send has.
-#[derive(Clone, Copy)]
+#[derive(Clone, Copy, Debug, PartialEq, Eq)]
 pub enum NegotiationAnswer {
     // the parent agreed: the timeout is stored
     Negotiated,
@@ -122,7 +122,7 @@ pub enum NegotiationAnswer {
 }
 
 // The answer to a keepalive, which can answer just these: an enum of its own, as a send has.
-#[derive(Clone, Copy)]
+#[derive(Clone, Copy, Debug, PartialEq, Eq)]
 pub enum KeepaliveAnswer {
     // the parent agreed: the timer is restarted
     KeepaliveOk,

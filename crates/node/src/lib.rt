@@ -12,6 +12,26 @@
 // request awaits that outcome; 3 a scan with more than 27 descriptors; 4 one with more than 16 short-addressed ones; 5 a state that no calls lead to (a count
 // above 16, more than 20 polls left, an association with an index past the table); 6 a page for fewer than 816 bytes. Of several the first in the order 5, 1,
 // 2, 3, 4, 6 is given.
+//
+// What the radio owes for each request:
+//
+// - `Scan`: the beacons that it heard, or `Err`.
+// - `Associate`: the candidate's answer, or `Err`. The radio takes channel, PAN id and, on success, its short address by itself: no note says them.
+// - `Transmit`: whether the frame was sent and, where an acknowledgement was asked for, acknowledged. Of a data frame `true` restarts the parent's timer.
+// - `Poll`: the frame; `Ok(None)` where the parent has none; `Err` where it does not answer.
+// - `Receive`: the frame, or `Err`; `Ok(None)` counts as `Err`.
+//
+// No call gives an operation up: a radio that does not answer is told of as a failure. A data frame is not kept. The owner has it, and hands it up where the
+// answer is `Polled(PollData)`; in a rejoin, a negotiation or a keepalive the source drops it, and no answer speaks of it.
+//
+// The indications of a leave and of a lost parent stand in slots, one each, and a newer one takes the place of an older. So an owner takes both after each
+// outcome of a transmission, a poll or a receive, at the end of a keepalive, and after each tick that has expired.
+//
+// A timer interrupt that keeps a record of its own loads it anew after every call (`lent_tick::tick_lent` says why).
+//
+// Types stand below: `Nib`, identifiers and the neighbour table in `nib`; requests, confirms, answers and indications in `management`, frames in its `frame`;
+// what a scan hands over in `discovery::mlme`; `AssociationResponse` in `join::association`; `Step`, `RadioRequest`, `Note` and `Refusal` in `operation`;
+// `KeepaliveMethod` and `parent_timer::ParentTimer` in `supervision`.
 #![tactic(auto)]
 
 ghost use Rattle.std.specs.Prelude.{◌≡◌, MatchOption, false, not, length};
@@ -270,6 +290,7 @@ impl State {
 // Starts.
 impl State {
     // Starts a discovery of the networks on a range of channels: `Ask(Scan)`. `scan_over` then answers `Discovered` with the confirm, or `DiscoveryFailed`.
+    // What was heard takes the place of the whole neighbour table, the parent's entry too: a node that has a parent has none after it, and rejoins.
     #[tactic(auto, unfolding(crate::specs::Calls::answer))]
     pub fn start_discovery(self, range: ScanRange) -> Answer
         ensures { result ≡ answer self (discovery range) }
@@ -323,6 +344,11 @@ impl State {
     // Starts a join or a rejoin, as the request says: `Ask(Associate)`, `Ask(Transmit)` or `Ask(Scan)`, or `Joined` at once where it can't be begun. Each
     // outcome brings the next request, until `Joined` says what came of it. A join chooses among the neighbours of the last discovery; a rejoin asks the
     // remembered parent first, and scans by itself.
+    //
+    // A node with no address (0xffff) joins, one with an address rejoins; otherwise the confirm is InvalidRequest. Extended PAN id 0 is any network for a join,
+    // and the remembered one for a rejoin; where another is remembered, a rejoin is InvalidRequest too. A join reads neither `scan` nor `security_enabled`.
+    // Either forgets what was negotiated: the parent's timer is inactive until a timeout is negotiated anew. The confirm of a rejoin by the remembered parent has channel 0: the
+    // channel is the one before.
     #[tactic(auto, unfolding(crate::specs::Calls::answer))]
     pub fn join(self, request: NlmeJoinRequest) -> Answer
         ensures { result ≡ answer self (join request) }
@@ -330,7 +356,9 @@ impl State {
         self.start(|| self.join_by(request))
     }
 
-    // Starts the send of a data frame by way of the parent: `Ask(Transmit)` with its header, then `Sent`. With no parent it is `Sent(SendNotJoined)` at once.
+    // Starts the send of a data frame by way of the parent: `Ask(Transmit)` with its header, to which the owner puts the payload, then `Sent`: `SendOk`;
+    // `SendMacError` where it was not sent; `SendParentLinkFailure` at the third such in a row, which signals ParentLinkFailure. With no parent it is
+    // `Sent(SendNotJoined)` at once.
     #[tactic(auto, unfolding(crate::specs::Calls::answer))]
     pub fn send_data(self, destination: ShortAddress, secure: bool) -> Answer
         ensures { result ≡ answer self (send destination secure) }
@@ -341,7 +369,8 @@ impl State {
         })
     }
 
-    // Polls the parent once: `Ask(Poll)`, then `Polled`. With no parent it is `Polled(PollNotJoined)` at once.
+    // Polls the parent once: `Ask(Poll)`, then `Polled`: `PollData` where the frame is the application's; `PollNothing` where there was none, or one that the
+    // node has dealt with; `PollUndecodable`; `PollMacError`. With no parent it is `Polled(PollNotJoined)` at once.
     #[tactic(auto, unfolding(crate::specs::Calls::answer))]
     pub fn poll(self) -> Answer
         ensures { result ≡ answer self poll }
@@ -349,7 +378,7 @@ impl State {
         self.start(|| self.decided_on(exchange::start_poll(self.control, self.parent())))
     }
 
-    // Receives one frame without a poll: `Ask(Receive)`, then `Polled`.
+    // Receives one frame without a poll: `Ask(Receive)`, then `Polled` as a poll's, for a device that listens when idle. It needs no parent.
     #[tactic(auto, unfolding(crate::specs::Calls::answer))]
     pub fn receive(self) -> Answer
         ensures { result ≡ answer self receive }
@@ -368,7 +397,9 @@ impl State {
         })
     }
 
-    // Asks the parent for the timeout that the attributes name: `Ask(Transmit)`, at most 3 times `Ask(Poll)`, then `NegotiationOver`.
+    // Asks the parent for the timeout that the attributes name: `Ask(Transmit)`, at most 3 times `Ask(Poll)`, then `NegotiationOver`: `Negotiated`, and the
+    // parent's timer runs; `NotNegotiated` where the parent declined or no response came; `NegotiationMacError` where the request was not sent. With no parent
+    // it is `NegotiationNotJoined` at once.
     pub fn negotiate_end_device_timeout(self) -> Answer
         ensures { result ≡ answer self (timeout TimeoutFor.Negotiation) }
     {
@@ -735,7 +766,8 @@ impl State {
         self.unless_bad(|| self.decided_on(exchange::take_status(self.control)))
     }
 
-    // The candidates that a join (`require_permit_joining`) or a rejoin of a network would try now, in order. The state is not changed; refusal 5 has no list.
+    // The candidates that a join (`require_permit_joining`) or a rejoin of a network would try now, in order: indexes in `table`, to be read by
+    // `self.table.get(index)`. The state is not changed; refusal 5 has no list.
     #[tactic(auto, unfolding(crate::specs::Calls::choose))]
     pub fn select_candidates(
         self,

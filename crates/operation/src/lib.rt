@@ -149,7 +149,7 @@ pub enum Note {
 }
 
 // Why a call is turned down. Each refusal has a number.
-#[derive(Clone, Copy)]
+#[derive(Clone, Copy, Debug, PartialEq, Eq)]
 pub enum Refusal {
     // an operation is under way
     OperationUnderWay = 1,
