@@ -9,7 +9,7 @@ use Rattle.nib.specs.Identifiers.{link_cost, bit}
 use Rattle.candidates.specs.UpdateIds.{newest, newer}
 use Rattle.candidates.specs.Candidates.{candidates, eligible, depth_at}
 use Rattle.supervision.specs.Timer.{ticked}
-use Rattle.supervision.specs.Timeouts.{timeout_seconds, negotiated_timeout_ms, refreshed}
+use Rattle.supervision.specs.Timeouts.{timeout_seconds, negotiated_timeout_ms, refreshed_timer}
 use Rattle.nlme.specs.Received.{accepts_leave}
 use Rattle.marked_cases.specs.MarkedCases.{candidates_of_none, tick_of, leave_of, answer_to, Case, cases, Hold, yard}
 
@@ -41,7 +41,7 @@ hold (c ∷ cs) h =
 
 -- P1 to P12
 pub marked-hold : Hold cases
-unfolding link_cost newer newest candidates eligible depth_at ticked timeout_seconds negotiated_timeout_ms refreshed accepts_leave
+unfolding link_cost newer newest candidates eligible depth_at ticked timeout_seconds negotiated_timeout_ms refreshed_timer accepts_leave
 marked-hold = hold cases tt
 
 -- the printed example: index 3, then index 1

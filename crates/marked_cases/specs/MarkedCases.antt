@@ -10,7 +10,7 @@ use Rattle.candidates.specs.UpdateIds.{newest}
 use Rattle.candidates.specs.Candidates.{candidates}
 use Rattle.supervision.specs.Timer.{ticked}
 use Rattle.supervision.specs.declared.parent_timer.Ticked.{Ticked}
-use Rattle.supervision.specs.Timeouts.{refreshed}
+use Rattle.supervision.specs.Timeouts.{refreshed_timer}
 use Rattle.nlme.specs.Received.{accepts_leave}
 
 -- an entry by the fields that the choice reads: extended PAN id, depth, permit, router and end device capacity, LQI, update id; potential parent is 1
@@ -86,7 +86,7 @@ abbrev pub answer_to : Question → List ℕ
 answer_to (newest_of ids) = ids_of (newest true 1 (map entry_with_id ids))
 answer_to (cost_of lqi) = link_cost lqi ∷ []
 answer_to (candidates_of_none profile router permit n) = candidates profile router permit n []
-answer_to (timer_of index) = (refreshed index).remaining_ms ∷ []
+answer_to (timer_of index) = (refreshed_timer index).remaining_ms ∷ []
 answer_to (tick_of ms elapsed) = tick_numbers (ticked (record { remaining_ms = ms }) elapsed)
 answer_to (leave_of address destination router allowed by_parent) =
     cond (accepts_leave (node_at address router allowed) (record { 0 = destination }) by_parent) 1 0 ∷ []

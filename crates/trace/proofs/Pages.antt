@@ -18,7 +18,7 @@ use Rattle.neighbor_page.proofs.PageForm.{page-form}
 use Rattle.operation.specs.declared.Step.{Step}
 use Rattle.operation.specs.contracts.Step.{the_type}
 use Rattle.operation.specs.Operation.{telling}
-use Rattle.node.specs.Looks.{finish, deciding}
+use Rattle.node.specs.Looks.{deciding_with, deciding}
 use Rattle.node.specs.Refusals.{bad, refuse}
 use Rattle.node.specs.Calls.{page_answer, page_left}
 use Rattle.node.specs.declared.State.{State}
@@ -65,7 +65,7 @@ bytes-none Step.Done es h = refl
 
 -- what is left in bytes that are lent, and how much of that is a page's
 left-is : (b : List ℕ) (s : State) → (page_left b s ≡ over b (page_bytes (page_answer (length b) s).step (entries_of s.table))) × (length (page_bytes (page_answer (length b) s).step (entries_of s.table)) ≤ length b)
-unfolding page_left page_answer written finish refuse
+unfolding page_left page_answer written deciding_with refuse
 left-is b s = go (bad s) (too_short (length b)) refl (deciding s (telling Step.PageWritten s.control)) refl
   where
     es : List NwkNeighbor
