@@ -347,8 +347,8 @@ impl State {
     //
     // A node with no address (0xffff) joins, one with an address rejoins; otherwise the confirm is InvalidRequest. Extended PAN id 0 is any network for a join,
     // and the remembered one for a rejoin; where another is remembered, a rejoin is InvalidRequest too. A join reads neither `scan` nor `security_enabled`.
-    // Either forgets what was negotiated: the parent's timer is inactive until a timeout is negotiated anew. The confirm of a rejoin by the remembered parent has channel 0: the
-    // channel is the one before.
+    // Either forgets what was negotiated: the parent's timer is inactive until a timeout is negotiated anew. The confirm of a rejoin by the remembered parent
+    // has channel 0: the channel is the one before.
     #[tactic(auto, unfolding(crate::specs::Calls::answer))]
     pub fn join(self, request: NlmeJoinRequest) -> Answer
         ensures { result ≡ answer self (join request) }
