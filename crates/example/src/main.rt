@@ -1,5 +1,6 @@
 // The way to use the library: a plug looks for networks, joins, sends, loses its parent and rejoins. A scripted radio stands in for a real one.
 // An owner starts an operation, has the radio carry out what the node asks, and hands each outcome back, until the node says what came of it (`settle`).
+// His timer interrupt has a record of its own, which it lends to each tick (`interrupt`).
 #![tactic(auto)]
 
 use discovery::mlme::{
@@ -10,12 +11,14 @@ use filter::{Edges, Failed};
 use join::association::AssociationResponse;
 use management::frame::{ReceivedFrame, Source};
 use management::{
-    NlmeJoinConfirm, NlmeJoinRequest, NlmeJoinStatus, NlmeNwkStatusIndication, RejoinNetwork,
-    RejoinResponse, ScanRange, SendAnswer,
+    EndDeviceTimeoutResponse, NegotiationAnswer, NlmeJoinConfirm, NlmeJoinRequest, NlmeJoinStatus,
+    NlmeNwkStatusIndication, RejoinNetwork, RejoinResponse, ScanRange, SendAnswer,
 };
 use nib::{CapabilityInformation, ExtendedPanId, IeeeAddress, Nib, PanId, ShortAddress};
 use node::{Answer, State};
 use operation::{Note, RadioRequest, Step};
+use std::process::ExitCode;
+use supervision::parent_timer::ParentTimer;
 
 // The plug: an end device on mains power that listens when idle and wants a short address.
 const PLUG: u64 = 0x0011_2233_4455_6677;
@@ -75,12 +78,19 @@ fn beacons(near_is_on: bool) -> PanDescriptorList {
     }
 }
 
-// A router that is asked to take the plug back does so.
+// The near router is asked for a timeout, and grants it; it takes polls as keepalives. The far one is asked to take the plug back, and does so.
 fn polled(router: ShortAddress) -> ReceivedFrame {
     let source = Source {
         address: router,
         ieee: None,
     };
+    if router.0 == NEAR {
+        let response = EndDeviceTimeoutResponse {
+            status: 0,
+            parent_information: 1,
+        };
+        return ReceivedFrame::TimeoutResponseCommand(source, response);
+    }
     let response = RejoinResponse {
         network_address: ShortAddress(0x9abc),
         status: 0,
@@ -143,6 +153,21 @@ fn tell_sent(edges: &Edges<HostRuntime>, answer: SendAnswer) -> Result<(), Faile
     }
 }
 
+fn tell_negotiated(edges: &Edges<HostRuntime>, answer: NegotiationAnswer) -> Result<(), Failed> {
+    match answer {
+        NegotiationAnswer::Negotiated => edges.write(b"  a timeout is negotiated\n"),
+        _ => edges.write(b"  no timeout is negotiated\n"),
+    }
+}
+
+fn tell_tick(edges: &Edges<HostRuntime>, expired: bool) -> Result<(), Failed> {
+    if expired {
+        edges.write(b"  the timer has expired\n")
+    } else {
+        edges.write(b"  the timer has not expired\n")
+    }
+}
+
 fn tell_status(
     edges: &Edges<HostRuntime>,
     indication: Option<NlmeNwkStatusIndication>,
@@ -160,6 +185,8 @@ fn tell_step(edges: &Edges<HostRuntime>, step: Step) -> Result<(), Failed> {
         Step::Discovered => edges.write(b"  networks were heard\n"),
         Step::Joined(confirm) => tell_joined(edges, confirm),
         Step::Sent(answer) => tell_sent(edges, answer),
+        Step::NegotiationOver(answer) => tell_negotiated(edges, answer),
+        Step::Expired(expired) => tell_tick(edges, expired),
         Step::StatusTaken(indication) => tell_status(edges, indication),
         _ => edges.write(b"  something that this plug does not ask for\n"),
     }
@@ -177,12 +204,29 @@ fn tell(edges: &Edges<HostRuntime>, answer: Answer) -> Result<(), Failed> {
     tell_step(edges, answer.step)
 }
 
-// Carries requests out until the operation has come to its end, and answers the state then.
+// What the owner keeps: the state, and the record of his timer interrupt.
+#[derive(Clone, Copy)]
+struct Plug {
+    state: State,
+    timer: ParentTimer,
+}
+
+// What a call leaves. The record counts in place of the state's own, so it is loaded anew after every call: a join zeroes only the state's own, and an old
+// record would count on and signal a failure that is none.
+fn after(answer: Answer) -> Plug {
+    Plug {
+        state: answer.state,
+        timer: answer.state.control.nlme.parent_timer,
+    }
+}
+
+// Carries requests out until the operation has come to its end. A proved loop has to end: a rejoin, the longest operation, does so after at most 698 outcomes
+// (`rejoin_bound`), and the loop has more turns.
 fn settle(
     edges: &Edges<HostRuntime>,
     mut answer: Answer,
     near_is_on: bool,
-) -> Result<State, Failed> {
+) -> Result<Plug, Failed> {
     for _ in 0..u64::MAX {
         tell(edges, answer)?;
         let Step::Ask(request) = answer.step else {
@@ -190,7 +234,17 @@ fn settle(
         };
         answer = carry_out(answer.state, request, near_is_on);
     }
-    Ok(answer.state)
+    Ok(after(answer))
+}
+
+// The timer interrupt: so many milliseconds have passed. It may come between any two calls, also while an outcome is awaited. One that comes while a call is
+// running is made after it.
+fn interrupt(edges: &Edges<HostRuntime>, mut plug: Plug, elapsed_ms: u32) -> Result<Plug, Failed> {
+    edges.write(b"tick\n")?;
+    let answer = lent_tick::tick_lent(&mut plug.timer, plug.state, elapsed_ms);
+    tell(edges, answer)?;
+    plug.state = answer.state;
+    Ok(plug)
 }
 
 fn request(kind: RejoinNetwork) -> NlmeJoinRequest {
@@ -218,42 +272,61 @@ fn blank() -> State {
     State::new(nib, 41)
 }
 
-// Sends data to the coordinator, and answers the state then.
-fn send(edges: &Edges<HostRuntime>, state: State, near_is_on: bool) -> Result<State, Failed> {
+// Sends data to the coordinator.
+fn send(edges: &Edges<HostRuntime>, plug: Plug, near_is_on: bool) -> Result<Plug, Failed> {
     edges.write(b"send\n")?;
     let secure = true;
-    settle(edges, state.send_data(ShortAddress(0), secure), near_is_on)
+    settle(
+        edges,
+        plug.state.send_data(ShortAddress(0), secure),
+        near_is_on,
+    )
+}
+
+fn join(
+    edges: &Edges<HostRuntime>,
+    plug: Plug,
+    kind: RejoinNetwork,
+    near_is_on: bool,
+) -> Result<Plug, Failed> {
+    settle(edges, plug.state.join(request(kind)), near_is_on)
+}
+
+// Discovers, joins, negotiates a timeout and sends: from here on the parent's timer runs.
+fn begin(edges: &Edges<HostRuntime>, state: State) -> Result<Plug, Failed> {
+    let near_is_on = true;
+    edges.write(b"discovery\n")?;
+    let plug = settle(edges, state.start_discovery(CHANNELS), near_is_on)?;
+    edges.write(b"join\n")?;
+    let plug = join(edges, plug, RejoinNetwork::Association, near_is_on)?;
+    edges.write(b"negotiation\n")?;
+    let negotiated = plug.state.negotiate_end_device_timeout();
+    let plug = settle(edges, negotiated, near_is_on)?;
+    let plug = send(edges, plug, near_is_on)?;
+    interrupt(edges, plug, HOUR_MS)
 }
 
 // Goes through the day. With the near router off the third transmission that fails is one too many: the parent is lost, and the plug rejoins by the far router.
+// The last tick signals nothing: the rejoin has forgotten the timeout of the old parent, and the record was loaded anew.
 fn live(edges: &Edges<HostRuntime>, state: State) -> Result<(), Failed> {
-    let near_is_on = true;
-    edges.write(b"discovery\n")?;
-    let state = settle(edges, state.start_discovery(CHANNELS), near_is_on)?;
-    edges.write(b"join\n")?;
-    let state = settle(
-        edges,
-        state.join(request(RejoinNetwork::Association)),
-        near_is_on,
-    )?;
-    let state = send(edges, state, near_is_on)?;
-
+    let plug = begin(edges, state)?;
     let near_is_on = false;
     edges.write(b"the near router is switched off\n")?;
-    let state = send(edges, state, near_is_on)?;
-    let state = send(edges, state, near_is_on)?;
-    let state = send(edges, state, near_is_on)?;
+    let plug = send(edges, plug, near_is_on)?;
+    let plug = send(edges, plug, near_is_on)?;
+    let plug = send(edges, plug, near_is_on)?;
     edges.write(b"status\n")?;
-    let state = settle(edges, state.take_nwk_status_indication(), near_is_on)?;
+    let taken = plug.state.take_nwk_status_indication();
+    let plug = settle(edges, taken, near_is_on)?;
     edges.write(b"rejoin\n")?;
-    let state = settle(
-        edges,
-        state.join(request(RejoinNetwork::NwkRejoin)),
-        near_is_on,
-    )?;
-    send(edges, state, near_is_on)?;
+    let plug = join(edges, plug, RejoinNetwork::NwkRejoin, near_is_on)?;
+    let plug = send(edges, plug, near_is_on)?;
+    interrupt(edges, plug, 6 * HOUR_MS)?;
     Ok(())
 }
+
+// The timeout that is asked for is 256 minutes.
+const HOUR_MS: u32 = 3_600_000;
 
 // What is printed if there is an argument.
 const USAGE: &[u8] = b"Usage: example\n\
@@ -266,13 +339,17 @@ const USAGE: &[u8] = b"Usage: example\n\
     \n\
     docs/NODETRACE.md has the calls one by one. Any argument prints this text.\n";
 
-fn main(rt: HostRuntime) {
+fn run(edges: &Edges<HostRuntime>) -> Result<(), Failed> {
+    if edges.print_usage(edges.word_count(), USAGE)? {
+        return Ok(());
+    }
+    live(edges, blank())
+}
+
+fn main(rt: HostRuntime) -> ExitCode {
     let edges = Edges {
         rt: &rt,
         program: b"example",
     };
-    if edges.print_usage(edges.word_count(), USAGE) {
-        return;
-    }
-    let _ = live(&edges, blank());
+    filter::status(run(&edges))
 }

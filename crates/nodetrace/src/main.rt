@@ -2,6 +2,7 @@
 #![tactic(auto)]
 
 use filter::{Edges, Failed};
+use std::process::ExitCode;
 use trace::Run;
 
 // What is printed if there is an argument.
@@ -20,13 +21,18 @@ const USAGE: &[u8] = b"Usage: nodetrace < TRACE\n\
     docs/NODETRACE.md follows a trace through, compare/FORMAT.md has the format.\n\
     Any argument prints this text.\n";
 
-// The run is over: its input is, or a line was bad, or an edge of the program failed.
+// Why a run is over.
 #[derive(Drop)]
-struct Over;
+enum Over {
+    // its input is over, or a line was bad
+    Ended,
+    // an edge of the program has failed
+    Edge(Failed),
+}
 
 impl From<Failed> for Over {
-    fn from(_: Failed) -> Over {
-        Over
+    fn from(failed: Failed) -> Over {
+        Over::Edge(failed)
     }
 }
 
@@ -35,7 +41,11 @@ fn answer(edges: &Edges<HostRuntime>, run: Run, line: &[u8]) -> Result<Run, Over
     let mut out = [0u8; trace::TURN_BYTES];
     let next = run.answer_line(line, &mut out);
     edges.write(&out[..next.length])?;
-    if next.good { Ok(next) } else { Err(Over) }
+    if next.good {
+        Ok(next)
+    } else {
+        Err(Over::Ended)
+    }
 }
 
 // A run, and what is kept of a line that is not ended: 512 bytes at most, since no line of so many is of the format.
@@ -72,10 +82,11 @@ impl Reading {
     }
 
     // At the end of the input: a line that is not ended is bad, and so is a beacon that is missing. The empty line, which is bad too, stands for either.
-    fn finish(&self, edges: &Edges<HostRuntime>) {
+    fn finish(&self, edges: &Edges<HostRuntime>) -> Result<(), Over> {
         if self.kept != 0 || self.run.session.missing != 0 {
-            let _ = answer(edges, self.run, b"");
+            answer(edges, self.run, b"")?;
         }
+        Err(Over::Ended)
     }
 
     // Reads once, and answers the lines that are ended. Where the read fails nothing more is said.
@@ -83,26 +94,35 @@ impl Reading {
         let mut piece = [0u8; 16384];
         let n = edges.read(&mut piece)?;
         if n == 0 {
-            self.finish(edges);
-            return Err(Over);
+            return self.finish(edges);
         }
         self.feed(edges, &piece[..n])
     }
 }
 
-// A proved loop has to end, and nothing says that the input does: the loop has more turns than any run uses up.
-fn main(rt: HostRuntime) {
+// Reads until the run is over. A proved loop has to end, and nothing says that the input does: the loop has more turns than any run uses up.
+fn read_all(edges: &Edges<HostRuntime>) -> Result<(), Over> {
+    let mut reading = Reading::new();
+    for _ in 0..u64::MAX {
+        reading.read_on(edges)?;
+    }
+    Ok(())
+}
+
+fn run(edges: &Edges<HostRuntime>) -> Result<(), Failed> {
+    if edges.print_usage(edges.word_count(), USAGE)? {
+        return Ok(());
+    }
+    match read_all(edges) {
+        Ok(()) | Err(Over::Ended) => Ok(()),
+        Err(Over::Edge(failed)) => Err(failed),
+    }
+}
+
+fn main(rt: HostRuntime) -> ExitCode {
     let edges = Edges {
         rt: &rt,
         program: b"nodetrace",
     };
-    if edges.print_usage(edges.word_count(), USAGE) {
-        return;
-    }
-    let mut reading = Reading::new();
-    for _ in 0..u64::MAX {
-        if reading.read_on(&edges).is_err() {
-            return;
-        }
-    }
+    filter::status(run(&edges))
 }

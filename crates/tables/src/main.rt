@@ -5,6 +5,7 @@
 use filter::{Edges, Failed};
 use management::NlmeJoinStatus;
 use nib::CapabilityInformation;
+use std::process::ExitCode;
 
 // What is printed if there is an argument.
 const USAGE: &[u8] = b"Usage: tables\n\
@@ -81,13 +82,17 @@ fn print_tables(edges: &Edges<HostRuntime>) -> Result<(), Failed> {
     Ok(())
 }
 
-fn main(rt: HostRuntime) {
+fn run(edges: &Edges<HostRuntime>) -> Result<(), Failed> {
+    if edges.print_usage(edges.word_count(), USAGE)? {
+        return Ok(());
+    }
+    print_tables(edges)
+}
+
+fn main(rt: HostRuntime) -> ExitCode {
     let edges = Edges {
         rt: &rt,
         program: b"tables",
     };
-    if edges.print_usage(edges.word_count(), USAGE) {
-        return;
-    }
-    let _ = print_tables(&edges);
+    filter::status(run(&edges))
 }

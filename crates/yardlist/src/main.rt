@@ -1,7 +1,8 @@
 // Reads a request and neighbour entries from standard input and prints the candidates for a parent.
 #![tactic(auto)]
 
-use filter::Edges;
+use filter::{Edges, Failed};
+use std::process::ExitCode;
 
 // What is printed if there is an argument.
 const USAGE: &[u8] = b"Usage: yardlist < YARD\n\
@@ -19,24 +20,26 @@ const USAGE: &[u8] = b"Usage: yardlist < YARD\n\
     \n\
     docs/YARDLIST.md has the format and an example. Any argument prints this text.\n";
 
-fn print_list(edges: &Edges<HostRuntime>, input: &[u8]) {
+fn print_list(edges: &Edges<HostRuntime>, input: &[u8]) -> Result<(), Failed> {
     let mut out = [0u8; yard_list::LIST_BYTES];
     let length = yard_list::yard_list(input, &mut out);
-    let _ = edges.write(&out[..length]);
+    edges.write(&out[..length])
 }
 
 // The first 1,024 bytes are enough: `cut-is-enough` of yard_list says that the list of a longer input is theirs.
-fn main(rt: HostRuntime) {
+fn run(edges: &Edges<HostRuntime>) -> Result<(), Failed> {
+    if edges.print_usage(edges.word_count(), USAGE)? {
+        return Ok(());
+    }
+    let mut input = [0u8; 1024];
+    let n = edges.read_full(&mut input)?;
+    print_list(edges, &input[..n])
+}
+
+fn main(rt: HostRuntime) -> ExitCode {
     let edges = Edges {
         rt: &rt,
         program: b"yardlist",
     };
-    if edges.print_usage(edges.word_count(), USAGE) {
-        return;
-    }
-    let mut input = [0u8; 1024];
-    let Ok(n) = edges.read_full(&mut input) else {
-        return;
-    };
-    print_list(&edges, &input[..n]);
+    filter::status(run(&edges))
 }
