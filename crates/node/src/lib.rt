@@ -152,12 +152,12 @@ impl State {
 // When a call is turned down.
 impl State {
     #[tactic(auto, unfolding(crate::specs::Refusals::refuse))]
-    fn refuse(self, refusal: Refusal) -> Answer
-        ensures { result ≡ refuse refusal self }
+    fn refuse(&self, refusal: Refusal) -> Answer
+        ensures { result ≡ refuse refusal self.now }
     {
         let step = Step::Refused(refusal);
         Answer {
-            state: self,
+            state: *self,
             reset: false,
             note: None,
             step,
@@ -199,7 +199,7 @@ impl State {
         ensures { MatchOption refusal (F.post make result) (λ k. result ≡ refuse k self.now) }
     {
         match refusal {
-            Some(refusal) => (*self).refuse(refusal),
+            Some(refusal) => self.refuse(refusal),
             None => make(),
         }
     }
@@ -252,33 +252,34 @@ impl State {
 // What a decision writes, and the answer.
 impl State {
     // A decision is written, and its answer made.
-    fn decided_on(mut self, decision: Decision) -> Answer
-        ensures { result ≡ deciding self decision }
+    fn decided_on(&self, decision: Decision) -> Answer
+        ensures { result ≡ deciding self.now decision }
     {
         let count = self.table.len();
+        let mut state = *self;
         if decision.clear_potential_parent {
-            let index = tries::tried_index(self.candidates, count);
-            self.table = neighbor_table::clear_potential_parent(self.table, index);
+            let index = tries::tried_index(state.candidates, count);
+            state.table = neighbor_table::clear_potential_parent(state.table, index);
         }
         match decision.candidate {
             Move::Stay => {}
             Move::TakeNext => {
-                self.candidates = tries::take_next(self.candidates, count);
+                state.candidates = tries::take_next(state.candidates, count);
             }
             Move::AdoptNext => {
-                let index = tries::next_index(self.candidates, count);
-                self.table = neighbor_table::adopt_parent(self.table, index);
-                self.candidates = tries::take_next(self.candidates, count);
+                let index = tries::next_index(state.candidates, count);
+                state.table = neighbor_table::adopt_parent(state.table, index);
+                state.candidates = tries::take_next(state.candidates, count);
             }
             Move::JoinTried => {
-                let index = tries::tried_index(self.candidates, count);
-                self.table = neighbor_table::mark_parent(self.table, index);
-                self.table = neighbor_table::clear_beacon_fields(self.table);
+                let index = tries::tried_index(state.candidates, count);
+                state.table = neighbor_table::mark_parent(state.table, index);
+                state.table = neighbor_table::clear_beacon_fields(state.table);
             }
         }
-        self.control = decision.control;
+        state.control = decision.control;
         Answer {
-            state: self,
+            state,
             reset: false,
             note: decision.note,
             step: decision.step,
@@ -299,36 +300,37 @@ impl State {
     }
 
     // A join or rejoin ends without success.
-    fn fail_join(self, status: NlmeJoinStatus) -> Answer
-        ensures { result ≡ deciding self (failing status self.control) }
+    fn fail_join(&self, status: NlmeJoinStatus) -> Answer
+        ensures { result ≡ deciding self.now (failing status self.now.control) }
     {
         self.decided_on(join::failing(self.control, status))
     }
 
     // An association: the candidates are chosen from the present table, and the first is tried.
     #[tactic(auto, unfolding(crate::specs::Calls::associate, crate::specs::Calls::with_chosen))]
-    fn associate(mut self, request: NlmeJoinRequest) -> Answer
-        ensures { result ≡ associate request self }
+    fn associate(&self, request: NlmeJoinRequest) -> Answer
+        ensures { result ≡ associate request self.now }
     {
         if self.control.nlme.nib.network_address != nib::NWK_UNASSIGNED_ADDRESS {
             return self.fail_join(NlmeJoinStatus::InvalidRequest);
         }
+        let mut state = *self;
         let require_permit_joining = true;
-        self.candidates = tries::chosen_from(
-            self.table,
-            self.control.nlme.nib.stack_profile,
+        state.candidates = tries::chosen_from(
+            state.table,
+            state.control.nlme.nib.stack_profile,
             request.extended_pan_id,
             request.capability_information,
             require_permit_joining,
         );
-        let next = self.next();
-        let decision = association::start_join(self.control, request.capability_information, next);
-        self.decided_on(decision)
+        let next = state.next();
+        let decision = association::start_join(state.control, request.capability_information, next);
+        state.decided_on(decision)
     }
 
     #[tactic(auto, unfolding(crate::specs::Calls::join_by))]
-    fn join_by(self, request: NlmeJoinRequest) -> Answer
-        ensures { result ≡ join_by request.rejoin_network request self }
+    fn join_by(&self, request: NlmeJoinRequest) -> Answer
+        ensures { result ≡ join_by request.rejoin_network request self.now }
     {
         match request.rejoin_network {
             RejoinNetwork::Association => self.associate(request),
@@ -347,8 +349,8 @@ impl State {
     //
     // A node with no address (0xffff) joins, one with an address rejoins; otherwise the confirm is InvalidRequest. Extended PAN id 0 is any network for a join,
     // and the remembered one for a rejoin; where another is remembered, a rejoin is InvalidRequest too. A join reads neither `scan` nor `security_enabled`.
-    // Either forgets what was negotiated: the parent's timer is inactive until a timeout is negotiated anew. The confirm of a rejoin by the remembered parent has channel 0: the
-    // channel is the one before.
+    // Either forgets what was negotiated: the parent's timer is inactive until a timeout is negotiated anew. The confirm of a rejoin by the remembered parent
+    // has channel 0: the channel is the one before.
     #[tactic(auto, unfolding(crate::specs::Calls::answer))]
     pub fn join(self, request: NlmeJoinRequest) -> Answer
         ensures { result ≡ answer self (join request) }
@@ -388,8 +390,8 @@ impl State {
 
     // The start of a negotiation or a keepalive.
     #[tactic(auto, unfolding(crate::specs::Calls::answer))]
-    fn start_timeout(self, purpose: TimeoutFor) -> Answer
-        ensures { result ≡ answer self (timeout purpose) }
+    fn start_timeout(&self, purpose: TimeoutFor) -> Answer
+        ensures { result ≡ answer self.now (timeout purpose) }
     {
         self.start(|| {
             let parent = self.parent();
@@ -416,32 +418,33 @@ impl State {
 
 // The outcome of a scan.
 impl State {
-    fn end_discovery(self, step: Step) -> Answer
-        ensures { result ≡ deciding self (ending step self.control) }
+    fn end_discovery(&self, step: Step) -> Answer
+        ensures { result ≡ deciding self.now (ending step self.now.control) }
     {
         self.decided_on(operation::ending(self.control, step))
     }
 
     // A rejoin goes on to its candidates.
     #[tactic(auto, unfolding(crate::specs::Calls::with_chosen))]
-    fn try_candidates(mut self) -> Answer
-        ensures { result ≡ rejoin_among (with_chosen false self.control.operation.extended_pan_id.0 self.control.nlme.nib.capability_information self) }
+    fn try_candidates(&self) -> Answer
+        ensures { result ≡ rejoin_among (with_chosen false self.now.control.operation.extended_pan_id.0 self.now.control.nlme.nib.capability_information self.now) }
     {
+        let mut state = *self;
         let require_permit_joining = false;
-        self.candidates = tries::chosen_from(
-            self.table,
-            self.control.nlme.nib.stack_profile,
-            self.control.operation.extended_pan_id,
-            self.control.nlme.nib.capability_information,
+        state.candidates = tries::chosen_from(
+            state.table,
+            state.control.nlme.nib.stack_profile,
+            state.control.operation.extended_pan_id,
+            state.control.nlme.nib.capability_information,
             require_permit_joining,
         );
-        let next = self.next();
-        self.decided_on(rejoin::try_next(self.control, NlmeJoinStatus::NotPermitted, next))
+        let next = state.next();
+        state.decided_on(rejoin::try_next(state.control, NlmeJoinStatus::NotPermitted, next))
     }
 
     #[tactic(auto, unfolding(crate::specs::Calls::scan_failed))]
-    fn scan_failed(self, purpose: ScanFor) -> Answer
-        ensures { result ≡ scan_failed purpose self }
+    fn scan_failed(&self, purpose: ScanFor) -> Answer
+        ensures { result ≡ scan_failed purpose self.now }
     {
         match purpose {
             ScanFor::Discovery => self.end_discovery(Step::DiscoveryFailed),
@@ -451,8 +454,8 @@ impl State {
 
     // The table is made from the scan: a discovery ends, a rejoin goes on to its candidates.
     #[tactic(auto, unfolding(crate::specs::Calls::scan_heard))]
-    fn scan_heard(self, purpose: ScanFor) -> Answer
-        ensures { result ≡ scan_heard purpose self }
+    fn scan_heard(&self, purpose: ScanFor) -> Answer
+        ensures { result ≡ scan_heard purpose self.now }
     {
         match purpose {
             ScanFor::Discovery => self.end_discovery(Step::Discovered),
@@ -462,12 +465,8 @@ impl State {
 
     // A scan that has failed, or its list; one that is too long is turned down.
     #[tactic(auto, unfolding(crate::specs::Calls::scan_decided))]
-    fn decide_scan(
-        mut self,
-        purpose: ScanFor,
-        outcome: Result<PanDescriptorList, MacError>,
-    ) -> Answer
-        ensures { result ≡ scan_decided outcome purpose self }
+    fn decide_scan(&self, purpose: ScanFor, outcome: Result<PanDescriptorList, MacError>) -> Answer
+        ensures { result ≡ scan_decided outcome purpose self.now }
     {
         let Ok(list) = outcome else {
             return self.scan_failed(purpose);
@@ -478,13 +477,14 @@ impl State {
         if MAX_SHORT_ADDRESSED < discovery::short_addressed(list) {
             return self.refuse(Refusal::TooManyShortAddressed);
         }
-        self.table = discovery::neighbor_table_from(list);
-        self.scan_heard(purpose)
+        let mut state = *self;
+        state.table = discovery::neighbor_table_from(list);
+        state.scan_heard(purpose)
     }
 
     #[tactic(auto, unfolding(crate::specs::Calls::answer, crate::specs::Refusals::outcome))]
-    fn scan_answer(self, outcome: Result<PanDescriptorList, MacError>) -> Answer
-        ensures { result ≡ answer self (scan outcome) }
+    fn scan_answer(&self, outcome: Result<PanDescriptorList, MacError>) -> Answer
+        ensures { result ≡ answer self.now (scan outcome) }
     {
         // The other three outcomes have this shape too: each takes what is awaited out of its own variant of `Phase`, and a pattern can't be handed to a
         // function.
@@ -541,8 +541,8 @@ impl State {
     }
 
     // What a poll or a receive was for goes on.
-    fn go_on(self, purpose: ReceptionFor, answer: PollAnswer) -> Answer
-        ensures { result ≡ go_on false purpose answer self }
+    fn go_on(&self, purpose: ReceptionFor, answer: PollAnswer) -> Answer
+        ensures { result ≡ go_on false purpose answer self.now }
     {
         let parent = self.parent();
         let next = self.next();
@@ -563,8 +563,8 @@ impl State {
 
     // A frame is dealt with: the poll goes on, or a leave is announced first.
     #[tactic(auto, unfolding(crate::specs::Calls::after_frame))]
-    fn after_frame(self, purpose: ReceptionFor, then: Then) -> Answer
-        ensures { result ≡ after_frame purpose then self }
+    fn after_frame(&self, purpose: ReceptionFor, then: Then) -> Answer
+        ensures { result ≡ after_frame purpose then self.now }
     {
         match then {
             Then::Over(answer) => self.go_on(purpose, answer),
@@ -574,39 +574,42 @@ impl State {
         }
     }
 
-    fn handled_on(mut self, purpose: ReceptionFor, handled: Handled) -> Answer
-        ensures { result ≡ handled_on purpose handled self }
+    fn handled_on(&self, purpose: ReceptionFor, handled: Handled) -> Answer
+        ensures { result ≡ handled_on purpose handled self.now }
     {
-        self.control = operation::with_nlme(self.control, handled.nlme);
-        self.change_table(handled.removed)
+        let mut state = *self;
+        state.control = operation::with_nlme(state.control, handled.nlme);
+        state
+            .change_table(handled.removed)
             .after_frame(purpose, handled.then)
     }
 
     // A frame is dealt with once it has taught the table.
-    fn frame_received(mut self, purpose: ReceptionFor, frame: ReceivedFrame) -> Answer
-        ensures { result ≡ processed purpose frame (taught_on frame self) }
+    fn frame_received(&self, purpose: ReceptionFor, frame: ReceivedFrame) -> Answer
+        ensures { result ≡ processed purpose frame (taught_on frame self.now) }
     {
-        self.table = received::learn_neighbor(self.table, frame);
-        let parent = self.parent();
+        let mut state = *self;
+        state.table = received::learn_neighbor(state.table, frame);
+        let parent = state.parent();
         let everyone = nib::NWK_BROADCAST_ALL;
-        let broadcast = neighbor_table::neighbor_ieee_address(&self.table, everyone);
+        let broadcast = neighbor_table::neighbor_ieee_address(&state.table, everyone);
         let handled = received::process_received_nwk_frame(
-            self.control.nlme,
+            state.control.nlme,
             parent,
             broadcast,
             frame,
         );
-        self.handled_on(purpose, handled)
+        state.handled_on(purpose, handled)
     }
 
     // By what the poll or the receive has brought.
     #[tactic(auto, unfolding(crate::specs::Calls::reception_decided))]
     fn decide_reception(
-        self,
+        &self,
         purpose: ReceptionFor,
         outcome: Result<Option<ReceivedFrame>, MacError>,
     ) -> Answer
-        ensures { result ≡ reception_decided outcome purpose self }
+        ensures { result ≡ reception_decided outcome purpose self.now }
     {
         match outcome {
             Ok(None) => self.go_on(purpose, exchange::no_data(purpose)),
@@ -669,8 +672,8 @@ impl State {
 
     // A leave is announced: what the poll was for goes on.
     #[tactic(auto, unfolding(crate::specs::Looks::deciding_with))]
-    fn finish_leave(self, leaving: Leaving) -> Answer
-        ensures { result ≡ go_on (not leaving.rejoin) leaving.purpose PollAnswer.PollNothing (after_leave leaving.rejoin self) }
+    fn finish_leave(&self, leaving: Leaving) -> Answer
+        ensures { result ≡ go_on (not leaving.rejoin) leaving.purpose PollAnswer.PollNothing (after_leave leaving.rejoin self.now) }
     {
         let after = self.after_leave(leaving.rejoin);
         let mut answer = after.go_on(leaving.purpose, PollAnswer::PollNothing);
@@ -678,23 +681,23 @@ impl State {
         answer
     }
 
-    fn after_rejoin_request(self, sent: bool) -> Answer
-        ensures { result ≡ deciding self (request_sent sent (parent self) (next self) self.control) }
+    fn after_rejoin_request(&self, sent: bool) -> Answer
+        ensures { result ≡ deciding self.now (request_sent sent (parent self.now) (next self.now) self.now.control) }
     {
         let parent = self.parent();
         let next = self.next();
         self.decided_on(rejoin::decide_request(self.control, sent, parent, next))
     }
 
-    fn after_data(self, sent: bool) -> Answer
-        ensures { result ≡ deciding self (data_sent sent (parent self) self.control) }
+    fn after_data(&self, sent: bool) -> Answer
+        ensures { result ≡ deciding self.now (data_sent sent (parent self.now) self.now.control) }
     {
         let parent = self.parent();
         self.decided_on(exchange::decide_send(self.control, sent, parent))
     }
 
-    fn after_timeout_request(self, purpose: TimeoutFor, sent: bool) -> Answer
-        ensures { result ≡ deciding self (timeout_request_sent purpose sent (parent self) self.control) }
+    fn after_timeout_request(&self, purpose: TimeoutFor, sent: bool) -> Answer
+        ensures { result ≡ deciding self.now (timeout_request_sent purpose sent (parent self.now) self.now.control) }
     {
         let parent = self.parent();
         self.decided_on(negotiation::decide_timeout_request(self.control, purpose, sent, parent))
@@ -702,8 +705,8 @@ impl State {
 
     // By what the transmission was for.
     #[tactic(auto, unfolding(crate::specs::Calls::transmission_decided))]
-    fn decide_transmission(self, purpose: TransmissionFor, sent: bool) -> Answer
-        ensures { result ≡ transmission_decided sent purpose self }
+    fn decide_transmission(&self, purpose: TransmissionFor, sent: bool) -> Answer
+        ensures { result ≡ transmission_decided sent purpose self.now }
     {
         match purpose {
             TransmissionFor::RejoinRequest => self.after_rejoin_request(sent),
@@ -816,8 +819,8 @@ impl State {
 
 // The neighbour page.
 impl State {
-    fn tell_page_written(self) -> Answer
-        ensures { result ≡ deciding self (telling Step.PageWritten self.control) }
+    fn tell_page_written(&self) -> Answer
+        ensures { result ≡ deciding self.now (telling Step.PageWritten self.now.control) }
     {
         self.decided_on(operation::telling(self.control, Step::PageWritten))
     }

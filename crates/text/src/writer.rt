@@ -10,19 +10,19 @@ pub struct Writer<'a> {
 }
 
 impl<'a> Writer<'a> {
-    ghost use Rattle.text.specs.Writer.{with_text};
+    ghost use Rattle.text.specs.Writer.{writer_over, place_of, with_text};
     ghost use Rattle.text.specs.Private.{advanced};
 
     // A writer at the start of a buffer.
     pub fn new(out: &'a mut [u8]) -> Writer<'a>
-        ensures { (result.out ≡ out.entry) × (result.at ≡ 0) }
+        ensures { result ≡ writer_over out.entry }
     {
         Writer { out, at: 0 }
     }
 
     // The place: how many bytes stand before it.
     pub fn place(&self) -> usize
-        ensures { result ≡ self.now.at }
+        ensures { result ≡ place_of self.now }
     {
         self.at
     }

@@ -22,7 +22,7 @@ unfolding scan_decided
 returns-then-list-gt-MAX_PAN_DESCRIPTOR_SIZE c =
     let l = c.in-Ok.list in
     c.refuse.ensures
-    ∙ sym (ap (λ (o : Result PanDescriptorList MacError). scan_decided o c.args.purpose c.args.self) c.in-Ok.is
+    ∙ sym (ap (λ (o : Result PanDescriptorList MacError). scan_decided o c.args.purpose c.args.self.now) c.in-Ok.is
     ∙ cond-true (ltb 27 l.count) _ _ (lt-ltb 27 l.count c.if-list-gt-MAX_PAN_DESCRIPTOR_SIZE.true))
 
 pub returns-then-short_addressed-gt-MAX_SHORT_ADDRESSED : goal.returns-then-short_addressed-gt-MAX_SHORT_ADDRESSED
@@ -31,7 +31,7 @@ returns-then-short_addressed-gt-MAX_SHORT_ADDRESSED c =
     let l = c.in-Ok.list in
     let n = short_addressed (descriptors_of l) in
     c.refuse-then-short_addressed-gt-MAX_SHORT_ADDRESSED.ensures
-    ∙ sym (ap (λ (o : Result PanDescriptorList MacError). scan_decided o c.args.purpose c.args.self) c.in-Ok.is
+    ∙ sym (ap (λ (o : Result PanDescriptorList MacError). scan_decided o c.args.purpose c.args.self.now) c.in-Ok.is
     ∙ cond-false (ltb 27 l.count) _ _ (le-ltb 27 l.count c.if-list-gt-MAX_PAN_DESCRIPTOR_SIZE.false)
     ∙ cond-true (ltb 16 n) _ _ (ap (ltb 16) (sym c.short_addressed.ensures) ∙ lt-ltb 16 _ c.if-short_addressed-gt-MAX_SHORT_ADDRESSED.true))
 
@@ -41,8 +41,8 @@ returns c =
     let l = c.in-Ok.list in
     let n = short_addressed (descriptors_of l) in
     let few : ltb 16 n ≡ false = ap (ltb 16) (sym c.short_addressed.ensures) ∙ le-ltb 16 _ c.if-short_addressed-gt-MAX_SHORT_ADDRESSED.false in
-    let made = c.neighbor_table_from-self.ensures ∙ ap table_of (neighbors-all (descriptors_of l) (ltb-false 16 n few)) in
-    c.scan_heard.ensures ∙ ap (λ (t : NeighborTable). scan_heard c.args.purpose (with_table t c.args.self)) made
-    ∙ sym (ap (λ (o : Result PanDescriptorList MacError). scan_decided o c.args.purpose c.args.self) c.in-Ok.is
+    let made = c.neighbor_table_from-state.ensures ∙ ap table_of (neighbors-all (descriptors_of l) (ltb-false 16 n few)) in
+    c.scan_heard.ensures ∙ ap (λ (t : NeighborTable). scan_heard c.args.purpose (with_table t c.args.self.now)) made
+    ∙ sym (ap (λ (o : Result PanDescriptorList MacError). scan_decided o c.args.purpose c.args.self.now) c.in-Ok.is
     ∙ cond-false (ltb 27 l.count) _ _ (le-ltb 27 l.count c.if-list-gt-MAX_PAN_DESCRIPTOR_SIZE.false)
     ∙ cond-false (ltb 16 n) _ _ few)
