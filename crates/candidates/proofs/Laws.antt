@@ -6,7 +6,7 @@ use Rattle.std.proofs.lemmas.Bool.{and_parts, or_cases}
 use Rattle.lists.specs.Lists.{indexes_from, All}
 use Rattle.lists.proofs.Order.{In, Sorted, ByKey, All-of, Sorted-map, sort_sorted}
 use Rattle.lists.proofs.Indexes.{indexes-ascend}
-use Rattle.nib.specs.Identifiers.{link_cost}
+use Rattle.nib.specs.LinkCost.{link_cost}
 use Rattle.nib.specs.Neighbors.{blank}
 use Rattle.nib.specs.declared.NwkNeighbor.{NwkNeighbor}
 use Rattle.candidates.specs.UpdateIds.{of_network, permits, potential, newest}

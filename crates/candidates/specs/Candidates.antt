@@ -3,7 +3,7 @@
 -- `es` is the list of a table's entries.
 use Rattle.std.specs.Prelude.{Option, Some, None, ◌≡◌, ℕ, ◌≤◌, Bool, true, false, cond, ◌&&◌, ◌||◌, ◌⊎◌, List, length, take, replicate, ◌==◌, nat_le, slice_index_or}
 use Rattle.lists.specs.Lists.{indexes_from, sort_by, over}
-use Rattle.nib.specs.Identifiers.{link_cost}
+use Rattle.nib.specs.LinkCost.{link_cost}
 use Rattle.nib.specs.Neighbors.{blank}
 use Rattle.nib.specs.declared.NwkNeighbor.{NwkNeighbor}
 use Rattle.candidates.specs.UpdateIds.{of_network, permits, potential, newest}

@@ -2,7 +2,7 @@
 -- `es` is the list of the table's entries.
 use Rattle.std.specs.Prelude.{Option, ℕ, ◌+◌, ◌-◌, min, Bool, cond, not, ltb, List, length, drop, ◌==◌, nat_lt, slice_index_or}
 use Rattle.lists.specs.Lists.{first_index, some}
-use Rattle.nib.specs.Identifiers.{bit}
+use Rattle.nib.specs.Bits.{bit}
 use Rattle.nib.specs.Neighbors.{entry_at}
 use Rattle.nib.specs.declared.CapabilityInformation.{CapabilityInformation}
 use Rattle.nib.specs.declared.NwkNeighbor.{NwkNeighbor}

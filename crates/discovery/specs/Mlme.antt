@@ -1,6 +1,6 @@
 -- A scan's descriptors, the fields of a beacon and the radio's capability information (01, "Neighbour entry" and "Identifiers and link cost").
-use Rattle.std.specs.Prelude.{ℕ, ◌/◌, ◌%◌, ◌^◌, false, List, take}
-use Rattle.nib.specs.Identifiers.{bit}
+use Rattle.std.specs.Prelude.{ℕ, false, List, take}
+use Rattle.nib.specs.Bits.{bit}
 use Rattle.discovery.specs.declared.mlme.PanDescriptor.{PanDescriptor}
 use Rattle.discovery.specs.declared.mlme.PanDescriptorList.{PanDescriptorList}
 use Rattle.discovery.specs.declared.mlme.MacCapabilityInformation.{MacCapabilityInformation}
@@ -26,12 +26,6 @@ blank_beacon =
 -- a failure of the radio: nothing more is said of it
 abbrev pub mac_error : MacError
 mac_error = record {}
-
--- the field of `width` bits that begins at bit `from`.
--- Stack profile field of a beacon (Zigbee Annex D): 0 to 3 stack profile, 4 to 7 protocol version, 10 router capacity,
--- 11 to 14 device depth, 15 end device capacity
-abbrev pub bits : ℕ → ℕ → ℕ → ℕ
-bits from width x = x / 2 ^ from % 2 ^ width
 
 -- capability bits as an association request carries them (01, "Identifiers and link cost"; IEEE 802.15.4, association).
 -- Bit 0, alternate PAN coordinator, is not carried

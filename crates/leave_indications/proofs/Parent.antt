@@ -8,7 +8,7 @@ use mathlib.Core.Logic.{⊎_elim, inl, inr}
 use borrow.Author.Tests.{eqb-true, eqb-false}
 use lib.Dec.{eqb}
 use Rattle.lists.proofs.Conditions.{by_cases}
-use Rattle.nib.specs.Identifiers.{bit}
+use Rattle.nib.specs.Bits.{bit}
 use Rattle.nib.specs.Neighbors.{entries_of}
 use Rattle.nib.specs.declared.IeeeAddress.{IeeeAddress}
 use Rattle.nib.specs.declared.NeighborTable.{NeighborTable}

@@ -4,7 +4,7 @@
 -- Who the parent is and which requests are accepted stand here as the source has them (`parent_short_address`, `accepts_leave_request`).
 -- They rest on no definition of what a received frame does.
 use Rattle.std.specs.Prelude.{Result, Ok, Option, Some, None, ℕ, ◌<◌, ◌≡◌, Bool, true, false, List, [], ◌∷◌, ◌⊎◌, ◌↔◌, take}
-use Rattle.nib.specs.Identifiers.{bit}
+use Rattle.nib.specs.Bits.{bit}
 use Rattle.nib.specs.declared.NwkNeighbor.{NwkNeighbor}
 use Rattle.nib.specs.declared.ShortAddress.{ShortAddress}
 use Rattle.management.specs.declared.LeavingDevice.{LeavingDevice}

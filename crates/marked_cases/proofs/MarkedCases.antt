@@ -5,7 +5,8 @@ use mathlib.Core.Bool.{Bool, true, false, cond, not, ◌&&◌}
 use mathlib.Core.List.{List, [], ◌∷◌}
 use lib.Dec.{T, eqb, eqb→eq}
 use native.Mathlib.Omega.{arith}
-use Rattle.nib.specs.Identifiers.{link_cost, bit}
+use Rattle.nib.specs.Bits.{bit}
+use Rattle.nib.specs.LinkCost.{link_cost}
 use Rattle.candidates.specs.UpdateIds.{newest, newer}
 use Rattle.candidates.specs.Candidates.{candidates, eligible, depth_at}
 use Rattle.supervision.specs.Timer.{ticked}

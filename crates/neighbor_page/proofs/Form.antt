@@ -14,7 +14,7 @@ use Rattle.text.specs.declared.writer.Writer.{Writer}
 use Rattle.text.specs.Writer.{with_text}
 use Rattle.text.proofs.Written.{from_start}
 use Rattle.nib.specs.Neighbors.{entry_at}
-use Rattle.nib.specs.Identifiers.{link_cost}
+use Rattle.nib.specs.LinkCost.{link_cost}
 use Rattle.nib.specs.declared.NwkNeighbor.{NwkNeighbor}
 use Rattle.text.specs.Text.{decimal_text, hex_text, right_text}
 use Rattle.text.proofs.Numbers.{hex-long, right-long}

@@ -12,7 +12,7 @@ use lib.ListN.{length, take, drop, get_or, length-append, length-map, get_or-app
 use lib.Seq.{take_at, drop_at, drop-drop, take-take, length-take-le, get_or-take, get_or-drop, get_or-append_seam}
 use Rattle.lists.specs.Lists.{over, All, every}
 use Rattle.lists.proofs.Lists.{All-get_d}
-use Rattle.nib.specs.Identifiers.{link_cost}
+use Rattle.nib.specs.LinkCost.{link_cost}
 use Rattle.nib.specs.Neighbors.{blank, entry_at}
 use Rattle.nib.specs.declared.NwkNeighbor.{NwkNeighbor}
 use Rattle.text.specs.Text.{digit_byte, decimal_digits, decimal_text, hex_text, spaces, right_text}

@@ -2,7 +2,7 @@
 use Rattle.std.specs.Prelude.{Option, Some, None, ℕ, zero, suc, Bool, cond, ltb, length, take}
 use mathlib.Core.List.{List, [], ◌∷◌, ◌++◌, map, zip_with, flat_map}
 use Rattle.lists.specs.Lists.{over}
-use Rattle.nib.specs.Identifiers.{link_cost}
+use Rattle.nib.specs.LinkCost.{link_cost}
 use Rattle.nib.specs.Neighbors.{entry_at}
 use Rattle.nib.specs.declared.NwkNeighbor.{NwkNeighbor}
 use Rattle.text.specs.Text.{bytes, decimal_text, hex_text, spaces, right_text}

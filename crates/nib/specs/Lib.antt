@@ -1,6 +1,7 @@
 -- The definitions of `nib`.
-pub mod Identifiers
 pub mod Attributes
+pub mod Bits
+pub mod LinkCost
 pub mod Neighbors
 pub mod NeighborTable
 pub mod Private

@@ -2,7 +2,8 @@
 #![tactic(auto)]
 
 ghost use Rattle.std.specs.Prelude.{◌≡◌, length, []};
-ghost use Rattle.nib.specs.Identifiers.{link_cost, bit};
+ghost use Rattle.nib.specs.Bits.{bit};
+ghost use Rattle.nib.specs.LinkCost.{link_cost};
 ghost use Rattle.nib.specs.Neighbors.{device_type_at, blank, entries_of, entry_at, table_of, pushed};
 ghost use Rattle.nib.specs.Attributes.{blank_nib};
 

@@ -2,7 +2,7 @@
 -- The parent is the first entry with relationship PARENT, and its IEEE address the one known of its short address.
 -- `broadcastIeee` is the IEEE address known of the broadcast address 0xffff.
 use Rattle.std.specs.Prelude.{Option, Some, None, ℕ, Bool, true, false, cond, not, ◌&&◌, List, eqb, ltb}
-use Rattle.nib.specs.Identifiers.{bit}
+use Rattle.nib.specs.Bits.{bit}
 use Rattle.nib.specs.declared.Nib.{Nib}
 use Rattle.nib.specs.declared.NwkNeighbor.{NwkNeighbor}
 use Rattle.nib.specs.declared.ShortAddress.{ShortAddress}

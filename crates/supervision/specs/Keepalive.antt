@@ -2,7 +2,7 @@
 -- 01 neither names them nor leaves them out.
 use Rattle.std.specs.Prelude.{Option, None, option_map, ℕ, ◌/◌, cond}
 use Rattle.std.specs.Option.{option_map_or}
-use Rattle.nib.specs.Identifiers.{bit}
+use Rattle.nib.specs.Bits.{bit}
 use Rattle.supervision.specs.Timeouts.{timeout_seconds, negotiated_timeout_ms}
 use Rattle.supervision.specs.declared.KeepaliveMethod.{KeepaliveMethod}
 

@@ -4,7 +4,7 @@ use Rattle.nib.specs.Neighbors.{pushed}
 use Rattle.discovery.specs.declared.mlme.Address.TheVariants.{Short}
 use Rattle.discovery.specs.declared.mlme.PanDescriptor.{PanDescriptor}
 use Rattle.discovery.specs.declared.mlme.PanDescriptorList.{PanDescriptorList}
-use Rattle.discovery.specs.Mlme.{mac_error}
+use Rattle.discovery.specs.Mlme.{blank_beacon, mac_error}
 use Rattle.discovery.specs.declared.NlmeNetworkDiscoveryConfirm.{NlmeNetworkDiscoveryConfirm}
 use Rattle.supervision.specs.declared.TransmitFailure.{TransmitFailure}
 use Rattle.supervision.specs.declared.TransmitFailures.{TransmitFailures}
@@ -64,20 +64,9 @@ no_node =
 
 -- The beacons of a scan
 
-abbrev pub no_beacon : PanDescriptor
-no_beacon =
-    record {
-      channel = 0;
-      coord_pan_id = record { 0 = 0 };
-      coord_address = Short (record { 0 = 0 }) (record { 0 = 0 });
-      superframe_spec = record { beacon_order = 0; superframe_order = 0; association_permit = false };
-      link_quality = 0;
-      zigbee_beacon = record { stack_profile = record { 0 = 0 }; extended_pan_id = record { 0 = 0 }; update_id = 0 };
-    }
-
 -- n beacons, none of which was heard yet
 abbrev pub unheard : ℕ → PanDescriptorList
-unheard n = record { descriptors = replicate 27 no_beacon; count = n }
+unheard n = record { descriptors = replicate 27 blank_beacon; count = n }
 
 -- the next of them, where so many are missing. A list has room for 27: those past it are only counted
 abbrev pub with_beacon : ℕ → PanDescriptor → PanDescriptorList → PanDescriptorList

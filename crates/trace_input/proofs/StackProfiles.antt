@@ -3,8 +3,8 @@ use Prim.Native.Nat.{ℕ, ◌<◌, ◌/◌, ◌%◌}
 use mathlib.Core.Path.{◌≡◌, ap}
 use native.Mathlib.Omega.{arith}
 use lib.Dec.{eqb}
-use Rattle.nib.specs.Identifiers.{bit}
-use Rattle.discovery.specs.Mlme.{bits}
+use Rattle.nib.specs.Bits.{bit}
+use Rattle.nib.specs.Bits.{bits}
 use Rattle.trace_input.specs.TraceInput.{packed}
 
 module _ (profile version router depth device : ℕ) (h : profile < 16) (h1 : version < 16) (h2 : router < 2) (h3 : depth < 16) (h4 : device < 2) where

@@ -40,7 +40,7 @@ use Rattle.join.specs.Join.{failure, associating, join_started, failed_status}
 use Rattle.join.specs.Rejoin.{invalid, trying, scan_or_end, try_remembered, rejoin_started, try_candidate, try_next, try_failed, rejoined, responded, answered_by, request_sent}
 use Rattle.nlme.specs.Received.{taught_by, taught, rejoin_responded, neighbor_left, accepts_leave, announcement, leave_requested, leave_handled, handled}
 use Rattle.nlme.specs.Nlme.{new_nlme, negotiation_reset, command_header}
-use Rattle.nib.specs.Identifiers.{link_cost}
+use Rattle.nib.specs.LinkCost.{link_cost}
 use Rattle.node.specs.declared.State.{State}
 use Rattle.two_nodes.specs.Statement.{Shown, shown, run, AlikeScan, within, same, scans, none, more}
 use Rattle.two_nodes.proofs.TwoNodes.{two-nodes}

@@ -17,7 +17,7 @@ use Rattle.lists.proofs.Order.{All-map}
 use Rattle.lists.proofs.Conditions.{split}
 use Rattle.lists.proofs.Ranks.{is_marked, rank, change_ranked, marked-below, marks-change}
 use Rattle.nib.specs.Neighbors.{entry_at}
-use Rattle.nib.specs.Identifiers.{bit}
+use Rattle.nib.specs.Bits.{bit}
 use Rattle.nib.proofs.Tables.{entries-of}
 use Rattle.nib.specs.declared.CapabilityInformation.{CapabilityInformation}
 use Rattle.nib.specs.declared.ShortAddress.{ShortAddress}

@@ -1,7 +1,7 @@
 -- `link_cost_from_lqi` meets its contract: in each arm the tests of `link_cost` are decided by the arm's bounds. Assumes nothing.
 use native.Mathlib.Omega.{arith}
 use borrow.Author.Tests.{le-leb, lt-leb}
-use Rattle.nib.specs.Identifiers.{link_cost}
+use Rattle.nib.specs.LinkCost.{link_cost}
 use Rattle.nib.proofs.link_cost_from_lqi.Goals as goal
 
 pub returns-in-0 : goal.returns-in-0
