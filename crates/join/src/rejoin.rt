@@ -79,7 +79,7 @@ fn rejoin_request(control: Control, parent: NwkNeighbor) -> RadioRequest
 
 // The control part of a try that begins.
 fn ready(mut control: Control) -> Control
-    ensures { result ≡ record { nlme = no_response (seq_used control.nlme); operation = with_polls REJOIN_RESPONSE_POLL_RETRIES (awaiting (Phase.Transmission TransmissionFor.RejoinRequest) control.operation) } }
+    ensures { result ≡ record { nlme = no_response (seq_used control.nlme); operation = with_polls 20 (awaiting (Phase.Transmission TransmissionFor.RejoinRequest) control.operation) } }
 {
     control = operation::in_phase(control, Phase::Transmission(TransmissionFor::RejoinRequest));
     control = operation::with_polls_left(control, REJOIN_RESPONSE_POLL_RETRIES);
