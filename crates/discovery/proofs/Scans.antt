@@ -19,7 +19,7 @@ use Rattle.discovery.specs.declared.mlme.Address.{Address}
 use Rattle.discovery.specs.declared.mlme.Address.TheVariants.{Short, Extended}
 use Rattle.discovery.specs.declared.mlme.PanDescriptor.{PanDescriptor}
 use Rattle.discovery.specs.Mlme.{blank_beacon}
-use Rattle.discovery.specs.Discovery.{entry_of, neighbor_by, neighbor_of, present, neighbors_of, short_addressed}
+use Rattle.discovery.specs.Discovery.{entry_from, neighbor_by, neighbor_of, present, neighbors_of, short_addressed}
 
 abbrev entries_from : PanDescriptor → List NwkNeighbor
 entries_from d = present (neighbor_of d)
@@ -51,7 +51,7 @@ neighbors-all ds h = take_all 16 (neighbors_of ds) h
 -- the entries of a network are those made from its beacons, in order
 pub network-neighbors : (n : ℕ) (ds : List PanDescriptor)
     → select (λ e. eqb e.extended_pan_id.0 n) (neighbors_of ds) ≡ neighbors_of (select (λ d. eqb d.zigbee_beacon.extended_pan_id.0 n) ds)
-unfolding neighbors_of present neighbor_by entry_of
+unfolding neighbors_of present neighbor_by entry_from
 network-neighbors n ds = select-flat_map entries_from (λ d. eqb d.zigbee_beacon.extended_pan_id.0 n) (λ e. eqb e.extended_pan_id.0 n) (λ d. own d d.coord_address) ds
   where
     none : (b : Bool) → ◌≡◌ {A = List NwkNeighbor} [] (cond b [] [])

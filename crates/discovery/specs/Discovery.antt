@@ -17,8 +17,8 @@ unfoldable pub potential_parent_of : ℕ → ℕ → ℕ
 potential_parent_of profile address = cond (bit 10 profile || (bit 15 profile || eqb address 0x0000)) 1 0
 
 -- the entry of a descriptor whose sender has that short address: IEEE address 0, relationship NONE (3), and what the beacon says (Zigbee Tables 3-63 and 3-64)
-unfoldable pub entry_of : PanDescriptor → ShortAddress → NwkNeighbor
-entry_of d address =
+unfoldable pub entry_from : PanDescriptor → ShortAddress → NwkNeighbor
+entry_from d address =
     record {
       extended_address = record { 0 = 0 };
       network_address = address;
@@ -43,7 +43,7 @@ entry_of d address =
 
 -- one entry for a short-addressed descriptor, none for another
 unfoldable pub neighbor_by : PanDescriptor → Address → Option NwkNeighbor
-neighbor_by d (Address.Short pan address) = Some (entry_of d address)
+neighbor_by d (Address.Short pan address) = Some (entry_from d address)
 neighbor_by d (Address.Extended pan address) = None
 
 abbrev pub neighbor_of : PanDescriptor → Option NwkNeighbor

@@ -6,7 +6,7 @@ ghost use Rattle.nib.specs.Neighbors.{table_of};
 ghost use Rattle.discovery.specs.Mlme.{descriptors_of};
 ghost use Rattle.discovery.specs.Discovery.{
   potential_parent_of,
-  entry_of,
+  entry_from,
   neighbor_of,
   neighbors_of,
   short_addressed,
@@ -72,9 +72,9 @@ fn potential_parent(profile: StackProfile, address: ShortAddress) -> u8
 }
 
 // The entry of a beacon whose sender has this short address.
-#[tactic(auto, unfolding(crate::specs::Discovery::entry_of))]
+#[tactic(auto, unfolding(crate::specs::Discovery::entry_from))]
 fn entry_from(pd: PanDescriptor, address: ShortAddress) -> NwkNeighbor
-    ensures { result ≡ entry_of pd address }
+    ensures { result ≡ entry_from pd address }
 {
     let beacon = pd.zigbee_beacon;
     let profile = beacon.stack_profile;
@@ -182,7 +182,7 @@ fn blank_descriptor() -> NetworkDescriptor
 }
 
 // A confirm that tells of no network.
-fn no_networks() -> NlmeNetworkDiscoveryConfirm
+pub fn no_networks() -> NlmeNetworkDiscoveryConfirm
     ensures { result ≡ confirm_of [] }
 {
     NlmeNetworkDiscoveryConfirm {

@@ -12,7 +12,7 @@ use Rattle.nib.specs.declared.DeviceType.TheVariants.{Router}
 use Rattle.nib.specs.NeighborTable.{parent_of, on_entries, adopted, marked}
 use Rattle.discovery.specs.declared.mlme.PanDescriptor.{PanDescriptor}
 use Rattle.discovery.specs.declared.mlme.Address.TheVariants.{Short}
-use Rattle.discovery.specs.Discovery.{potential_parent_of, entry_of, neighbor_by, present, neighbors_of}
+use Rattle.discovery.specs.Discovery.{potential_parent_of, entry_from, neighbor_by, present, neighbors_of}
 use Rattle.candidates.specs.UpdateIds.{newer, newest}
 use Rattle.candidates.specs.Candidates.{eligible, candidates}
 use Rattle.candidates.specs.Tries.{parent_in, skipped, next_index, next_in, taking, adopted_next}
@@ -120,7 +120,7 @@ calls = unanswered_try ++ (heard_beacons ∷ times 16 unanswered_try)
 pub bound-reached : BoundReached
 unfolding new_state new_nlme answer bad outcome join_by rejoin_started invalid try_remembered trying negotiation_reset deciding_with moved potential_cleared parent_in parent_of
     transmission_decided request_sent answered_by polling poll_on try_failed scan_or_end reception_decided taught taught_by on_entries handled leave_handled leave_requested
-    accepts_leave table_changed after_frame after_leave leave_announced left_for continuing scan_decided scan_heard with_scan neighbors_of neighbor_by entry_of present
+    accepts_leave table_changed after_frame after_leave leave_announced left_for continuing scan_decided scan_heard with_scan neighbors_of neighbor_by entry_from present
     potential_parent_of with_chosen candidates eligible link_cost newest newer flat_map try_next try_candidate next_in next_index skipped taking adopted_next
     adopted marked
 bound-reached = (lost, request, calls, refl, refl)

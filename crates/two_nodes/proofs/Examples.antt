@@ -35,7 +35,7 @@ use Rattle.candidates.specs.Tries.{parent_in, tried_index, skipped, next_index, 
 use Rattle.nib.specs.NeighborTable.{found, ieee_of, parent_of, on_entries, learnt, marked, adopted, retained}
 use Rattle.candidates.specs.Candidates.{eligible, depth_at, candidates}
 use Rattle.candidates.specs.UpdateIds.{newer, newest}
-use Rattle.discovery.specs.Discovery.{potential_parent_of, entry_of, neighbor_by, present, neighbors_of}
+use Rattle.discovery.specs.Discovery.{potential_parent_of, entry_from, neighbor_by, present, neighbors_of}
 use Rattle.join.specs.Join.{failure, associating, join_started, failed_status}
 use Rattle.join.specs.Rejoin.{invalid, trying, scan_or_end, try_remembered, rejoin_started, try_candidate, try_next, try_failed, rejoined, responded, answered_by, request_sent}
 use Rattle.nlme.specs.Received.{taught_by, taught, rejoin_responded, neighbor_left, accepts_leave, announcement, leave_requested, leave_handled, handled}
@@ -295,7 +295,7 @@ is_leave (Ok (Some (ReceivedFrame.OtherCommand s))) = false
 is_leave (Ok (Some ReceivedFrame.OtherFrame)) = false
 
 computed : Computed
-unfolding new_state new_nlme answer bad refuse outcome moved potential_cleared deciding_with with_chosen associate join_by with_scan scan_heard scan_decided continuing table_changed after_frame reception_decided transmission_decided parent_in tried_index skipped next_index next_in past_table taking adopted_next found ieee_of parent_of on_entries learnt marked adopted retained eligible depth_at candidates newer newest potential_parent_of entry_of neighbor_by present neighbors_of associating join_started failed_status invalid trying scan_or_end try_remembered rejoin_started try_candidate try_next try_failed rejoined responded answered_by polling poll_on request_sent taught_by taught rejoin_responded neighbor_left accepts_leave announcement leave_requested leave_handled handled negotiation_reset command_header link_cost shown flat_map
+unfolding new_state new_nlme answer bad refuse outcome moved potential_cleared deciding_with with_chosen associate join_by with_scan scan_heard scan_decided continuing table_changed after_frame reception_decided transmission_decided parent_in tried_index skipped next_index next_in past_table taking adopted_next found ieee_of parent_of on_entries learnt marked adopted retained eligible depth_at candidates newer newest potential_parent_of entry_from neighbor_by present neighbors_of associating join_started failed_status invalid trying scan_or_end try_remembered rejoin_started try_candidate try_next try_failed rejoined responded answered_by polling poll_on request_sent taught_by taught rejoin_responded neighbor_left accepts_leave announcement leave_requested leave_handled handled negotiation_reset command_header link_cost shown flat_map
 computed =
     record {
       joins-past = refl;

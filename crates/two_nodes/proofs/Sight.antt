@@ -32,7 +32,7 @@ use Rattle.candidates.specs.Tries.{parent_in}
 use Rattle.discovery.specs.declared.mlme.Address.{Address}
 use Rattle.discovery.specs.declared.mlme.Address.TheVariants.{Short, Extended}
 use Rattle.discovery.specs.declared.mlme.PanDescriptor.{PanDescriptor}
-use Rattle.discovery.specs.Discovery.{entry_of, neighbor_by, present, neighbors_of}
+use Rattle.discovery.specs.Discovery.{entry_from, neighbor_by, present, neighbors_of}
 use Rattle.discovery.proofs.Scans.{network-neighbors}
 use Rattle.two_nodes.specs.Statement.{is_beacon_of}
 
@@ -207,7 +207,7 @@ abbrev New : NwkNeighbor → Type 0
 New e = NoAddress e × (is_parent e ≡ false)
 
 all_new : (ds : List PanDescriptor) → All New (neighbors_of ds)
-unfolding neighbors_of flat_map present neighbor_by entry_of
+unfolding neighbors_of flat_map present neighbor_by entry_from
 all_new [] = tt
 all_new (d ∷ ds) = go d.coord_address (all_new ds)
   where
