@@ -88,7 +88,7 @@ pub struct Answer {
     // the state for the next call
     pub state: State,
     // the device has left its network: what its owner keeps beside this state (routes, groups, keys, counters, address map) is to be reset (01, "Received
-    // frame")
+    // frame"). The parent's timer counts on: an owner who doesn't want its signal begins with `State::new`
     pub reset: bool,
     // what the radio is told first, without an outcome
     pub note: Option<Note>,
