@@ -18,7 +18,6 @@ use Rattle.nib.proofs.Tables.{push-of}
 use Rattle.discovery.specs.declared.mlme.Address.{Address}
 use Rattle.discovery.specs.declared.mlme.Address.TheVariants.{Short, Extended}
 use Rattle.discovery.specs.declared.mlme.PanDescriptor.{PanDescriptor}
-use Rattle.discovery.specs.Mlme.{blank_beacon}
 use Rattle.discovery.specs.Discovery.{entry_from, neighbor_by, neighbor_of, present, neighbors_of, short_addressed}
 
 abbrev entries_from : PanDescriptor → List NwkNeighbor

@@ -2,11 +2,10 @@
 use Rattle.std.specs.Prelude.{Option, Some, None, ℕ, false, cond, ◌||◌, eqb, length, replicate}
 use mathlib.Core.List.{List, [], ◌∷◌, flat_map}
 use Rattle.lists.specs.Lists.{over}
-use Rattle.nib.specs.Bits.{bit}
+use Rattle.nib.specs.Bits.{bit, bits}
 use Rattle.nib.specs.Neighbors.{NONE, device_type_at}
 use Rattle.nib.specs.declared.NwkNeighbor.{NwkNeighbor}
 use Rattle.nib.specs.declared.ShortAddress.{ShortAddress}
-use Rattle.nib.specs.Bits.{bits}
 use Rattle.discovery.specs.declared.mlme.Address.{Address}
 use Rattle.discovery.specs.declared.mlme.PanDescriptor.{PanDescriptor}
 use Rattle.discovery.specs.declared.NetworkDescriptor.{NetworkDescriptor}

@@ -1,7 +1,6 @@
 // The radio records that discovery and association read: what a scan hands over, and the capability information of an association request.
 ghost use Rattle.std.specs.Prelude.{◌≡◌};
-ghost use Rattle.nib.specs.Bits.{bit};
-ghost use Rattle.nib.specs.Bits.{bits};
+ghost use Rattle.nib.specs.Bits.{bit, bits};
 ghost use Rattle.discovery.specs.Mlme.{mac_capabilities};
 
 use nib::{CapabilityInformation, ExtendedPanId, IeeeAddress, PanId, ShortAddress};

@@ -211,8 +211,8 @@ struct Plug {
     timer: ParentTimer,
 }
 
-// What a call leaves. The record counts in place of the state's own, so it is loaded anew after every call: a join zeroes only the state's own, and an old
-// record would count on and signal a failure that is none.
+// What a call leaves. The record counts in place of the state's own, so it is loaded anew: a join zeroes only the state's own, and an old record would count on
+// and signal a failure that is none. `settle` does so once, at its end, since no interrupt comes within it here. Where one may, it is done after each outcome.
 fn after(answer: Answer) -> Plug {
     Plug {
         state: answer.state,
@@ -325,7 +325,7 @@ fn live(edges: &Edges<HostRuntime>, state: State) -> Result<(), Failed> {
     Ok(())
 }
 
-// The timeout that is asked for is 256 minutes.
+// An hour in milliseconds. The timeout that is asked for is 256 minutes: one hour does not use it up, six would.
 const HOUR_MS: u32 = 3_600_000;
 
 // What is printed if there is an argument.

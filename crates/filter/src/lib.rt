@@ -1,5 +1,5 @@
-// What every program does at its edges: an argument asks for the usage, standard input is read, standard output is written. What fails is told of on standard
-// error, as PROGRAM: standard input: REASON, and the program ends with status 1.
+// What programs do at their edges: an argument asks for the usage, standard input is read, standard output is written. What fails is told of on standard
+// error, as PROGRAM: standard input: REASON, and the program ends with status 1. Those that only the gate runs end with 0 all the same.
 #![tactic(auto)]
 
 ghost use Rattle.std.specs.Prelude.{◌≡◌, ◌≤◌};

@@ -55,7 +55,7 @@ fn operation_for(nlme: Nlme, request: NlmeJoinRequest) -> Operation
 }
 
 // The slot of the rejoin response is emptied.
-// One line, as `no_timeout_response` of `exchange` is over another type: one function for both would be longer.
+// One line, as `without_timeout_response` of `exchange` is over another type: one function for both would be longer.
 fn without_response(mut nlme: Nlme) -> Nlme
     ensures { result ≡ no_response nlme }
 {

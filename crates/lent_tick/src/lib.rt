@@ -63,7 +63,8 @@ pub fn tick_with(timer: ParentTimer, state: State, elapsed_ms: u32) -> LentTicke
 // signal a failure that is none. The state that is answered is kept as after any call: it holds the timer too, and the indication of an expiry.
 //
 // A tick is a call as any other: it may come between any two calls, also while an operation is under way, and not while another call on the state is still
-// running. One that comes then is made after it. Several that waited may be made as one, with the sum of their milliseconds.
+// running. One that comes then is made after it. Several that waited may be made as one, with the sum of their milliseconds; one of 0
+// counts as 1.
 pub fn tick_lent(timer: &mut ParentTimer, state: State, elapsed_ms: u32) -> Answer
     ensures { (result ≡ (lent_tick timer.old elapsed_ms state).answer) × (timer.new ≡ (lent_tick timer.old elapsed_ms state).timer) }
 {

@@ -52,7 +52,7 @@ pub struct NlmeJoinRequest {
 pub enum NlmeJoinStatus {
     // the device has joined
     Success,
-    // the request does not fit the state
+    // a kind that is not supported, a request that does not fit the state, or a rejoin that has nobody to ask
     InvalidRequest,
     // no candidate was found
     NotPermitted,

@@ -400,8 +400,8 @@ impl State {
     }
 
     // Asks the parent for the timeout that the attributes name: `Ask(Transmit)`, at most 3 times `Ask(Poll)`, then `NegotiationOver`: `Negotiated`, and the
-    // parent's timer runs; `NotNegotiated` where the parent declined or no response came; `NegotiationMacError` where the request was not sent. With no parent
-    // it is `NegotiationNotJoined` at once.
+    // parent's timer runs (it is inactive where the index asked for is above 14); `NotNegotiated` where the parent declined or no response came;
+    // `NegotiationMacError` where the request was not sent. With no parent it is `NegotiationNotJoined` at once.
     pub fn negotiate_end_device_timeout(self) -> Answer
         ensures { result ≡ answer self (timeout TimeoutFor.Negotiation) }
     {

@@ -245,7 +245,7 @@ pub struct Decision {
 pub struct Polling {
     // whom the next poll asks; nobody once the polls are over
     pub parent: Option<NwkNeighbor>,
-    // the control part, with one poll fewer left
+    // the control part then: one poll fewer is left, or none
     pub control: Control,
 }
 

@@ -1,7 +1,6 @@
 -- A trace's lines taken one by one (compare/FORMAT.md): which may come, what each leaves, and what it says of the node.
 use Rattle.std.specs.Prelude.{Option, Some, None, Result, Ok, Err, ℕ, ◌+◌, ◌-◌, Bool, true, false, cond, eqb, ltb, set, replicate}
 use Rattle.nib.specs.Neighbors.{pushed}
-use Rattle.discovery.specs.declared.mlme.Address.TheVariants.{Short}
 use Rattle.discovery.specs.declared.mlme.PanDescriptor.{PanDescriptor}
 use Rattle.discovery.specs.declared.mlme.PanDescriptorList.{PanDescriptorList}
 use Rattle.discovery.specs.Mlme.{blank_beacon, mac_error}

@@ -247,7 +247,7 @@ fn node_of(line: InputLine) -> NodeFields
     }
 }
 
-fn range_of(line: InputLine, k: usize) -> ScanRange
+fn range_from(line: InputLine, k: usize) -> ScanRange
     requires { k < 18 }
     ensures { result ≡ range_from k line }
 {
@@ -278,7 +278,7 @@ fn join_request_of(line: InputLine) -> NlmeJoinRequest
         rejoin_network: rejoin_network_of(line.numbers[1]),
         capability_information: capabilities_at(line, 3),
         security_enabled: flag_at(line, 4),
-        scan: range_of(line, 5),
+        scan: range_from(line, 5),
     }
 }
 
@@ -423,7 +423,7 @@ pub fn call_of(line: InputLine) -> TraceCall
         )),
         InputKind::Command => frame_call(ReceivedFrame::OtherCommand(source_of(line))),
         InputKind::OtherFrame => frame_call(ReceivedFrame::OtherFrame),
-        InputKind::Discovery => TraceCall::Discovery(range_of(line, 1)),
+        InputKind::Discovery => TraceCall::Discovery(range_from(line, 1)),
         InputKind::Join => TraceCall::Join(join_request_of(line)),
         InputKind::Send => TraceCall::Send {
             destination: short_at(line, 1),

@@ -11,7 +11,7 @@ use lib.Seq.{length-take-le}
 use Rattle.lists.specs.Lists.{All}
 use Rattle.std.proofs.lemmas.List.{take_more}
 use Rattle.text.proofs.Numbers.{decimal-long, hex-long}
-use Rattle.text.proofs.Written.{in_turn, from_start, same_buffer}
+use Rattle.text.proofs.Written.{in_turn}
 use Rattle.trace_lines.specs.declared.Field.{Field}
 use Rattle.trace_lines.specs.declared.Word.{Word}
 use Rattle.trace_lines.specs.declared.Word.TheVariants.{E, Node, F, Refused, Scan, Associate, Transmit, Poll, Receive, SetChannel, SetAddress, Reset, Discovered, D, DiscoveryFailed, Confirm, SendAnswer, PollAnswer, Negotiated, KeepaliveAnswer, Expired, LeaveIndication, StatusIndication, Nothing, Candidates, RejoinResponse, TimeoutResponse, End, DataFrame, RejoinRequest, TimeoutRequest, Leave, Success, InvalidRequest, NotPermitted, NoNetworks, PanAtCapacity, PanAccessDenied, MacError, Ok, NotJoined, ParentLinkFailure, PolledData, PolledNothing, Undecodable, Bad, Done}
