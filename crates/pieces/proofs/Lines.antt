@@ -121,7 +121,7 @@ module _ (n : ℕ) (piece : List ℕ) (at : ℕ) (s : List ℕ) (h : Held) (fits
   turn-fits true = (length-sets h.line h.kept (line_bytes piece at) ∙ fits.0, zero-le)
   turn-fits false = (length-sets h.line h.kept (line_bytes piece at) ∙ fits.0, omega (arith, fits.0))
 
--- a line that is ended goes from what is kept to the lines; one that is not is kept longer
+  -- a line that is ended goes from what is kept to the lines; one that is not is kept longer
   turn-whole : (b : Bool) → is_ended piece at ≡ b → whole_of n (after piece at h b) (drop (at + length (line_bytes piece at) + cond b 1 0) piece ++ s) ≡ whole_of n h (drop at piece ++ s)
   turn-whole true e =
       let l = drop at piece in
