@@ -4,7 +4,7 @@
 use Rattle.std.specs.Prelude.{Some, None, Result, Ok, Err, Option}
 use Prim.Native.Nat.{ℕ, ◌≤◌}
 use mathlib.Core.Path.{◌≡◌, refl, sym, ap, ap₂, ◌∙◌, subst, subst⁻¹, subst₂}
-use mathlib.Core.Bool.{Bool, true, false, cond}
+use mathlib.Core.Bool.{Bool, true, false}
 use mathlib.Core.List.{List}
 use borrow.Author.Tests.{lt-ltb, le-ltb, ltb-true, ltb-false}
 use lib.Dec.{eqb, ltb}
@@ -21,6 +21,7 @@ use Rattle.management.specs.declared.NlmeJoinStatus.{NlmeJoinStatus}
 use Rattle.management.specs.declared.NlmeJoinRequest.{NlmeJoinRequest}
 use Rattle.management.specs.declared.RejoinNetwork.{RejoinNetwork}
 use Rattle.management.specs.declared.PollAnswer.{PollAnswer}
+use Rattle.management.specs.Frame.{sender_of}
 use Rattle.management.specs.declared.frame.ReceivedFrame.{ReceivedFrame}
 use Rattle.nlme.specs.Nlme.{parent_address, nlme_ticked}
 use Rattle.operation.specs.Operation.{with_nlme, is_idle, asking, ending, scan_for, association_for, transmission_for, reception_for}
@@ -38,12 +39,12 @@ use Rattle.join.specs.Join.{join_started, associated}
 use Rattle.join.specs.Rejoin.{rejoin_started, try_next, try_goes_on, request_sent}
 use Rattle.node.specs.Looks.{with_control, entries, parent, tried, next, moved, potential_cleared, deciding_with, deciding}
 use Rattle.node.specs.Refusals.{refuse, bad, start, outcome}
-use Rattle.node.specs.Calls.{with_chosen, associate, join_by, scan_failed, with_scan, rejoin_among, scan_heard, scan_decided, association_decided, continuing, go_on, taught_on, reception_decided, transmission_decided, Call, discovery, join, send, poll, receive, timeout, scan, association, transmission, reception, elapsed, take_leave, take_status, made, answer}
+use Rattle.node.specs.Calls.{with_chosen, associate, join_by, scan_failed, with_scan, rejoin_among, scan_heard, scan_decided, association_decided, continuing, go_on, heard_on, reception_decided, transmission_decided, Call, discovery, join, send, poll, receive, timeout, scan, association, transmission, reception, elapsed, take_leave, take_status, made, answer}
 use Rattle.node.specs.declared.State.{State}
 use Rattle.node.specs.declared.Answer.{Answer}
 use Rattle.two_nodes.specs.Statement.{shown, is_beacon_of, AlikeScan, failures, within, above-27, above-16, AlikeCall, same, scans, NoneUnderWay, Names, Allowed}
 use Rattle.two_nodes.proofs.Sight.{shows, choice_in}
-use Rattle.two_nodes.proofs.States.{Sight, sight, live_in, live, Tidy, Ours, tried_seen, next_seen, parent_in, tried-in, next-in, joins, written_in, written-sight, written-tidy, written_ours, chosen-sight, chosen-tidy, chosen-ours, heard-tidy, heard-list, learnt_in, sender, taught-sight, taught-tidy, taught-ours, bad_in, bad-is}
+use Rattle.two_nodes.proofs.States.{Sight, sight, live_in, live, Tidy, Ours, tried_seen, next_seen, parent_in, tried-in, next-in, joins, written_in, written-sight, written-tidy, written_ours, chosen-sight, chosen-tidy, chosen-ours, heard-tidy, heard-list, heard_in, frame-sight, frame-tidy, frame-ours, bad_in, bad-is}
 use Rattle.two_nodes.proofs.Decisions.{never, OnPurpose, OnSend, OnScan, OnPhase, On, OnD, ending-on, try_next-on, answered_by-on, request_sent-on, rejoin_started-on, join_started-on, associated-on, answered-unseen, request-unseen}
 use Rattle.two_nodes.proofs.Frames.{Plain, plain_of, nlme_after, says, processed-is}
 use Rattle.discovery.specs.declared.mlme.MacError.{MacError}
@@ -261,40 +262,37 @@ module _ (n : ℕ) (some : n ≡ 0 → ⊥) {s t : State} (a : Alike n s t) (c :
   go_on-good ReceptionFor.SingleReceive x e = absurd e
   go_on-good (ReceptionFor.TimeoutResponse u) x e = absurd e
 
--- a frame teaches its sender's address
-module _ (n : ℕ) (f : ReceivedFrame) {s t : State} (a : Alike n s t) where
-  taught-alike : Alike n (taught_on f s) (taught_on f t)
-  taught-alike =
+-- a frame's sender is heard
+module _ (n k : ℕ) (f : ReceivedFrame) {s t : State} (a : Alike n s t) where
+  frame-alike : Alike n (heard_on f k s) (heard_on f k t)
+  frame-alike =
       record {
         control-same = a.control-same;
-        list_same =
-            ap (λ (v : Sight). v.list) (taught-sight n f s)
-            ∙ ap (learnt_in (sender f).ieee (sender f).address) a.list_same
-            ∙ sym (ap (λ (v : Sight). v.list) (taught-sight n f t));
+        list_same = ap (λ (v : Sight). v.list) (frame-sight n k f s) ∙ ap (heard_in (sender_of f)) a.list_same ∙ sym (ap (λ (v : Sight). v.list) (frame-sight n k f t));
         taken-same = a.taken-same;
-        tidy-1 = taught-tidy n f s a.tidy-1;
-        tidy-2 = taught-tidy n f t a.tidy-2;
+        tidy-1 = frame-tidy n k f s a.tidy-1;
+        tidy-2 = frame-tidy n k f t a.tidy-2;
       }
 
-  taught-tries : Tries n s t → Tries n (taught_on f s) (taught_on f t)
-  taught-tries c =
+  frame-tries : Tries n s t → Tries n (heard_on f k s) (heard_on f k t)
+  frame-tries c =
       record {
-        places_same = ap (λ (v : Sight). v.places) (taught-sight n f s) ∙ c.places_same ∙ sym (ap (λ (v : Sight). v.places) (taught-sight n f t));
-        ours-1 = taught-ours n f s c.ours-1;
-        ours-2 = taught-ours n f t c.ours-2;
+        places_same = ap (λ (v : Sight). v.places) (frame-sight n k f s) ∙ c.places_same ∙ sym (ap (λ (v : Sight). v.places) (frame-sight n k f t));
+        ours-1 = frame-ours n k f s c.ours-1;
+        ours-2 = frame-ours n k f t c.ours-2;
       }
 
 -- the outcome of a poll
 module _ (n : ℕ) (some : n ≡ 0 → ⊥) {s t : State} (a : Alike n s t) (c : s.control.operation.scan_requested ≡ true → Tries n s t) where
-  reception-good : (o : Result (Option ReceivedFrame) MacError) (u : ReceptionFor) → OnPurpose n u s.control.operation.extended_pan_id.0 → Plain o → Good n (reception_decided o u s) (reception_decided o u t)
+  reception-good : (o : Result (Option ReceivedFrame) MacError) (k : ℕ) (u : ReceptionFor) → OnPurpose n u s.control.operation.extended_pan_id.0 → Plain o → Good n (reception_decided o k u s) (reception_decided o k u t)
   unfolding reception_decided
-  reception-good (Ok None) u e w = go_on-good n some a c u _ e
-  reception-good (Err x) u e w = go_on-good n some a c u _ e
-  reception-good (Ok (Some f)) u e w =
+  reception-good (Ok None) k u e w = go_on-good n some a c u _ e
+  reception-good (Err x) k u e w = go_on-good n some a c u _ e
+  reception-good (Ok (Some f)) k u e w =
       let q : with_nlme (nlme_after f s.control.nlme) s.control ≡ with_nlme (nlme_after f t.control.nlme) t.control =
       ap (λ (x : Control). with_nlme (nlme_after f x.nlme) x) a.control-same in
-      let g = go_on-good n some (alike-control n (taught-alike n f a) q) (λ h. tries-control _ _ (taught-tries n f a (c h))) u (says f) e in
-      subst₂ (Good n) (sym (processed-is u f (taught_on f s) w)) (sym (processed-is u f (taught_on f t) w)) g
+      let g = go_on-good n some (alike-control n (frame-alike n k f a) q) (λ h. tries-control _ _ (frame-tries n k f a (c h))) u (says f) e in
+      subst₂ (Good n) (sym (processed-is u f (heard_on f k s) w)) (sym (processed-is u f (heard_on f k t) w)) g
 
 -- the outcome of a scan
 module _ (n : ℕ) {s t : State} (a : Alike n s t) where
@@ -303,15 +301,15 @@ module _ (n : ℕ) {s t : State} (a : Alike n s t) where
   scan_failed-good ScanFor.Discovery = ending-good n a _
   scan_failed-good ScanFor.Rejoin = ending-good n a _
 
-  heard-alike : (ds es : List PanDescriptor) → short_addressed ds ≤ 16 → short_addressed es ≤ 16 → select (is_beacon_of n) ds ≡ select (is_beacon_of n) es → Alike n (with_scan ds s) (with_scan es t)
+  heard-alike : (k : ℕ) (ds es : List PanDescriptor) → short_addressed ds ≤ 16 → short_addressed es ≤ 16 → select (is_beacon_of n) ds ≡ select (is_beacon_of n) es → Alike n (with_scan k ds s) (with_scan k es t)
   unfolding with_scan
-  heard-alike ds es w v e =
+  heard-alike k ds es w v e =
       record {
         control-same = a.control-same;
-        list_same = heard-list ds s w n ∙ ap neighbors_of e ∙ sym (heard-list es t v n);
+        list_same = heard-list k ds s w n ∙ ap neighbors_of e ∙ sym (heard-list k es t v n);
         taken-same = a.taken-same;
-        tidy-1 = heard-tidy ds s w a.tidy-1.few;
-        tidy-2 = heard-tidy es t v a.tidy-2.few;
+        tidy-1 = heard-tidy k ds s w a.tidy-1.few;
+        tidy-2 = heard-tidy k es t v a.tidy-2.few;
       }
 
   scan_heard-good : (n ≡ 0 → ⊥) → (u : ScanFor) → OnScan n u s.control.operation.extended_pan_id.0 → Good n (scan_heard u s) (scan_heard u t)
@@ -324,16 +322,16 @@ module _ (n : ℕ) {s t : State} (a : Alike n s t) where
       (chosen-good n some false s.control.nlme.nib.capability_information a s.control.operation.extended_pan_id.0 e (try_next NlmeJoinStatus.NotPermitted) (try_next-on n s.control e _))
 
 module _ (n : ℕ) (some : n ≡ 0 → ⊥) {s t : State} (r : Near n s t) (u : ScanFor) (e : OnScan n u s.control.operation.extended_pan_id.0) where
-  scan_decided-good : (x y : Result PanDescriptorList MacError) → AlikeScan n x y → Good n (scan_decided x u s) (scan_decided y u t)
+  scan_decided-good : (x y : Result PanDescriptorList MacError) (k : ℕ) → AlikeScan n x y → Good n (scan_decided x k u s) (scan_decided y k u t)
   unfolding scan_decided with_scan
-  scan_decided-good x y (failures e f) = scan_failed-good n r.alike u
-  scan_decided-good x y (above-27 {l} {m} a b) = rw (lt-ltb 27 l.count a, lt-ltb 27 m.count b) (refuse-good n TooManyDescriptors r)
-  scan_decided-good x y (above-16 {l} {m} a b c d) =
+  scan_decided-good x y k (failures e f) = scan_failed-good n r.alike u
+  scan_decided-good x y k (above-27 {l} {m} a b) = rw (lt-ltb 27 l.count a, lt-ltb 27 m.count b) (refuse-good n TooManyDescriptors r)
+  scan_decided-good x y k (above-16 {l} {m} a b c d) =
       rw (le-ltb 27 l.count a, le-ltb 27 m.count b, lt-ltb 16 (short_addressed (descriptors_of l)) c, lt-ltb 16 (short_addressed (descriptors_of m)) d)
       (refuse-good n TooManyShortAddressed r)
-  scan_decided-good x y (within {l} {m} a b c d h) =
+  scan_decided-good x y k (within {l} {m} a b c d h) =
       rw (le-ltb 27 l.count a, le-ltb 27 m.count b, le-ltb 16 (short_addressed (descriptors_of l)) c, le-ltb 16 (short_addressed (descriptors_of m)) d)
-      (scan_heard-good n (heard-alike n r.alike (descriptors_of l) (descriptors_of m) c d h) some u e)
+      (scan_heard-good n (heard-alike n r.alike k (descriptors_of l) (descriptors_of m) c d h) some u e)
 
 -- EVERY CALL
 
@@ -371,13 +369,13 @@ module _ (n : ℕ) (some : n ≡ 0 → ⊥) {s t : State} (r : Near n s t) where
   abbrev after_scan : Bool
   after_scan = s.control.operation.scan_requested
 
-  scan_good : (x y : Result PanDescriptorList MacError) → AlikeScan n x y → (p : Phase) → OnPhase n p id → Good n (outcome (scan_for p) (scan_decided x) s) (outcome (scan_for p) (scan_decided y) t)
+  scan_good : (x y : Result PanDescriptorList MacError) (k : ℕ) → AlikeScan n x y → (p : Phase) → OnPhase n p id → Good n (outcome (scan_for p) (scan_decided x k) s) (outcome (scan_for p) (scan_decided y k) t)
   unfolding outcome
-  scan_good x y l (Phase.Scan u) e = scan_decided-good n some r u e x y l
-  scan_good x y l Phase.Idle e = refuse-good n NotAwaited r
-  scan_good x y l Phase.Association e = refuse-good n NotAwaited r
-  scan_good x y l (Phase.Transmission u) e = refuse-good n NotAwaited r
-  scan_good x y l (Phase.Reception u) e = refuse-good n NotAwaited r
+  scan_good x y k l (Phase.Scan u) e = scan_decided-good n some r u e x y k l
+  scan_good x y k l Phase.Idle e = refuse-good n NotAwaited r
+  scan_good x y k l Phase.Association e = refuse-good n NotAwaited r
+  scan_good x y k l (Phase.Transmission u) e = refuse-good n NotAwaited r
+  scan_good x y k l (Phase.Reception u) e = refuse-good n NotAwaited r
 
   association-good : (o : Result AssociationResponse MacError) (p : Phase) → (live_in p after_scan ≡ true → Tries n s t)
       → Good n (outcome (association_for p) (association_decided o) s) (outcome (association_for p) (association_decided o) t)
@@ -399,14 +397,14 @@ module _ (n : ℕ) (some : n ≡ 0 → ⊥) {s t : State} (r : Near n s t) where
   sent-good ok Phase.Association k e = refuse-good n NotAwaited r
   sent-good ok (Phase.Reception u) k e = refuse-good n NotAwaited r
 
-  received-good : (o : Result (Option ReceivedFrame) MacError) (p : Phase) → (live_in p after_scan ≡ true → Tries n s t) → OnPhase n p id → ((u : ReceptionFor) → p ≡ Phase.Reception u → Plain o)
-      → Good n (outcome (reception_for p) (reception_decided o) s) (outcome (reception_for p) (reception_decided o) t)
+  received-good : (o : Result (Option ReceivedFrame) MacError) (m : ℕ) (p : Phase) → (live_in p after_scan ≡ true → Tries n s t) → OnPhase n p id → ((u : ReceptionFor) → p ≡ Phase.Reception u → Plain o)
+      → Good n (outcome (reception_for p) (reception_decided o m) s) (outcome (reception_for p) (reception_decided o m) t)
   unfolding outcome
-  received-good o (Phase.Reception u) k e w = reception-good n some r.alike k o u e (w u refl)
-  received-good o Phase.Idle k e w = refuse-good n NotAwaited r
-  received-good o (Phase.Scan u) k e w = refuse-good n NotAwaited r
-  received-good o Phase.Association k e w = refuse-good n NotAwaited r
-  received-good o (Phase.Transmission u) k e w = refuse-good n NotAwaited r
+  received-good o m (Phase.Reception u) k e w = reception-good n some r.alike k o m u e (w u refl)
+  received-good o m Phase.Idle k e w = refuse-good n NotAwaited r
+  received-good o m (Phase.Scan u) k e w = refuse-good n NotAwaited r
+  received-good o m Phase.Association k e w = refuse-good n NotAwaited r
+  received-good o m (Phase.Transmission u) k e w = refuse-good n NotAwaited r
 
   same_good : (c : Call) → Allowed n s c → Good n (made s c) (made t c)
   same_good (discovery x) w = start-good (λ _. kept-good n r.alike refl refl tt (never false refl) (λ i. asking (Phase.Scan ScanFor.Discovery) (RadioRequest.Scan x) (r.alike.control-same i)))
@@ -415,10 +413,10 @@ module _ (n : ℕ) (some : n ≡ 0 → ⊥) {s t : State} (r : Near n s t) where
   same_good poll w = start-good (λ i. absurd (w i))
   same_good receive w = start-good (λ i. absurd (w i))
   same_good (timeout u) w = start-good (λ i. absurd (w i))
-  same_good (scan o) w = outcome-same scan_for _ _ (scan_good o o (scan-self n o) s.control.operation.phase r.on)
+  same_good (scan o k) w = outcome-same scan_for _ _ (scan_good o o k (scan-self n o) s.control.operation.phase r.on)
   same_good (association o) w = outcome-same association_for _ _ (association-good o s.control.operation.phase r.tries)
   same_good (transmission ok) w = outcome-same transmission_for _ _ (sent-good ok s.control.operation.phase r.tries r.on)
-  same_good (reception o) w = outcome-same reception_for _ _ (received-good o s.control.operation.phase r.tries r.on (plain_of s o w))
+  same_good (reception o k) w = outcome-same reception_for _ _ (received-good o k s.control.operation.phase r.tries r.on (plain_of s o w))
   same_good (elapsed ms) w =
       let a = r.alike in
       kept-good n a refl refl r.on r.tries (λ i. tick_told (nlme_ticked (alike-parent n a i) ms (a.control-same i).nlme) (a.control-same i))
@@ -427,7 +425,7 @@ module _ (n : ℕ) (some : n ≡ 0 → ⊥) {s t : State} (r : Near n s t) where
 
   call-good : {c d : Call} → AlikeCall n c d → Allowed n s c → Good n (made s c) (made t d)
   call-good (same c) w = same_good c w
-  call-good (scans {o = o} {p = p} l) w = outcome-same scan_for _ _ (scan_good o p l s.control.operation.phase r.on)
+  call-good (scans {o = o} {p = p} {t = k} l) w = outcome-same scan_for _ _ (scan_good o p k l s.control.operation.phase r.on)
 
   pub step-good : {c d : Call} → AlikeCall n c d → Allowed n s c → Good n (answer s c) (answer t d)
   unfolding answer

@@ -14,6 +14,7 @@ use Rattle.management.specs.declared.RejoinNetwork.{RejoinNetwork}
 use Rattle.management.specs.declared.RejoinNetwork.TheVariants.{Association, NwkRejoin}
 use Rattle.management.specs.declared.ScanRange.{ScanRange}
 use Rattle.management.specs.declared.NlmeJoinStatus.TheVariants.{Success, NotPermitted, PanAtCapacity, MacError}
+use Rattle.management.specs.Frame.{sender_of}
 use Rattle.management.specs.declared.frame.Source.{Source}
 use Rattle.management.specs.declared.frame.ReceivedFrame.TheVariants.{Data, RejoinResponseCommand, LeaveCommand}
 use Rattle.management.specs.declared.frame.CommandHeader.{CommandHeader}
@@ -32,13 +33,13 @@ use Rattle.node.specs.Looks.{with_control, entries, moved, potential_cleared, de
 use Rattle.node.specs.Refusals.{refuse, bad, outcome}
 use Rattle.node.specs.Calls.{with_chosen, associate, join_by, with_scan, scan_heard, scan_decided, continuing, table_changed, after_frame, reception_decided, transmission_decided, Call, discovery, join, scan, transmission, reception, take_status, answer}
 use Rattle.candidates.specs.Tries.{parent_in, tried_index, skipped, next_index, next_in, past_table, taking, adopted_next}
-use Rattle.nib.specs.NeighborTable.{found, ieee_of, parent_of, on_entries, learnt, marked, adopted, retained}
+use Rattle.nib.specs.NeighborTable.{found, ieee_of, parent_of, on_entries, learnt, renewed, marked, adopted, retained}
 use Rattle.candidates.specs.Candidates.{eligible, depth_at, candidates}
 use Rattle.candidates.specs.UpdateIds.{newer, newest}
 use Rattle.discovery.specs.Discovery.{potential_parent_of, entry_from, neighbor_by, present, neighbors_of}
 use Rattle.join.specs.Join.{failure, associating, join_started, failed_status}
 use Rattle.join.specs.Rejoin.{invalid, trying, scan_or_end, try_remembered, rejoin_started, try_candidate, try_next, try_failed, rejoined, responded, answered_by, request_sent}
-use Rattle.nlme.specs.Received.{taught_by, taught, rejoin_responded, neighbor_left, accepts_leave, announcement, leave_requested, leave_handled, handled}
+use Rattle.nlme.specs.Received.{taught_by, heard_from, rejoin_responded, neighbor_left, accepts_leave, announcement, leave_requested, leave_handled, handled}
 use Rattle.nlme.specs.Nlme.{new_nlme, negotiation_reset, command_header}
 use Rattle.nib.specs.LinkCost.{link_cost}
 use Rattle.node.specs.declared.State.{State}
@@ -86,8 +87,12 @@ beacon address network channel id =
 abbrev scan_of : List PanDescriptor → Result PanDescriptorList radio.MacError
 scan_of ds = Ok (record { descriptors = ds; count = length ds })
 
+-- scans are heard at 100 seconds, and frames come at 200
 abbrev hears : List PanDescriptor → Call
-hears ds = scan (scan_of ds)
+hears ds = scan (scan_of ds) 100
+
+abbrev frame_comes : ReceivedFrame → Call
+frame_comes f = reception (Ok (Some f)) 200
 
 -- a join or rejoin with capabilities, and an end device's
 abbrev join_as : ℕ → RejoinNetwork → ℕ → Call
@@ -110,7 +115,7 @@ from address ieee = record { address = record { 0 = address }; ieee = ieee }
 
 -- a leave command to a short address: the notification of a neighbour that goes, and a request from the broadcast address that asks for a rejoin
 abbrev leave : Source → ℕ → Bool → Call
-leave source to request = reception (Ok (Some (LeaveCommand source (record { 0 = to }) (record { request = request; rejoin = request; remove_children = false }))))
+leave source to request = frame_comes (LeaveCommand source (record { 0 = to }) (record { request = request; rejoin = request; remove_children = false }))
 
 abbrev leaves : ℕ → Call
 leaves address = leave (from address None) 0xffff false
@@ -120,7 +125,7 @@ asks_to_leave = leave (from 0xffff (Some (record { 0 = 99 }))) 0x1234 true
 
 -- the response to a rejoin request: with an address for the node, and of a parent that is at capacity
 abbrev responds : ℕ → ℕ → ℕ → Call
-responds address status given = reception (Ok (Some (RejoinResponseCommand (from address None) (record { network_address = record { 0 = given }; status = status }))))
+responds address status given = frame_comes (RejoinResponseCommand (from address None) (record { network_address = record { 0 = given }; status = status }))
 
 abbrev accepts : ℕ → Call
 accepts address = responds address 0 0x2345
@@ -189,7 +194,7 @@ abbrev joins : ℕ → List PanDescriptor → List Call
 joins network ds = discovery range ∷ hears ds ∷ join_of Association network ∷ []
 
 abbrev discovers : Result PanDescriptorList radio.MacError → List Call
-discovers o = discovery range ∷ scan o ∷ []
+discovers o = discovery range ∷ scan o 100 ∷ []
 
 abbrev succeeds : List PanDescriptor → List Call
 succeeds ds = join_of NwkRejoin 0 ∷ hears ds ∷ transmission true ∷ accepts 7 ∷ []
@@ -201,7 +206,7 @@ abbrev left : List PanDescriptor → List Call
 left ds = join_of NwkRejoin 0 ∷ hears ds ∷ transmission true ∷ leaves 5 ∷ declines 7 ∷ []
 
 abbrev taught_by7 : List PanDescriptor → List Call
-taught_by7 ds = join_of NwkRejoin 0 ∷ hears ds ∷ transmission true ∷ reception (Ok (Some (Data (from 7 (Some (record { 0 = 99 })))))) ∷ declines 8 ∷ []
+taught_by7 ds = join_of NwkRejoin 0 ∷ hears ds ∷ transmission true ∷ frame_comes (Data (from 7 (Some (record { 0 = 99 })))) ∷ declines 8 ∷ []
 
 abbrev twice : List PanDescriptor → List Call
 twice ds = join_of NwkRejoin 0 ∷ hears ds ∷ transmission false ∷ join_of NwkRejoin 0 ∷ transmission false ∷ hears ds ∷ []
@@ -219,6 +224,10 @@ foreign address = beacon address 9 20 6
 -- the IEEE addresses that the entries themselves hold
 abbrev addresses : State → List ℕ
 addresses s = map (λ e. e.extended_address.0) (entries s)
+
+-- when they were last heard
+abbrev times : State → List ℕ
+times s = map (λ e. e.last_heard) (entries s)
 
 -- the index of the candidate being tried
 abbrev index : State → ℕ
@@ -263,6 +272,10 @@ record Computed : Type 0 where
   taught-without : steps (run member (taught_by7 (own-8 ∷ own-7 ∷ []))) ≡ Ask (Scan range) ∷ rejoins 1 8 None ∷ polls 8 ∷ polls 8 ∷ rejoins 2 7 (Some (record { 0 = 99 })) ∷ []
   addresses-with : addresses (reached member (taught_by7 (foreign 7 ∷ own-8 ∷ own-7 ∷ []))) ≡ 99 ∷ 0 ∷ 0 ∷ []
   addresses-without : addresses (reached member (taught_by7 (own-8 ∷ own-7 ∷ []))) ≡ 0 ∷ 99 ∷ []
+  -- the same frame renews the foreign 7 where that was heard first: the network's own 7 was last heard at 100 there, and at 200 else.
+  -- So last-heard times are not compared. 8 was last heard when it declined
+  times-with : times (reached member (taught_by7 (foreign 7 ∷ own-8 ∷ own-7 ∷ []))) ≡ 200 ∷ 200 ∷ 100 ∷ []
+  times-without : times (reached member (taught_by7 (own-8 ∷ own-7 ∷ []))) ≡ 200 ∷ 200 ∷ []
   -- the index of the candidate that is being tried differs: a confirm that named it would
   index-with : index (reached new (joining (foreign 1 ∷ own-7 ∷ []))) ≡ 1
   index-without : index (reached new (joining (own-7 ∷ []))) ≡ 0
@@ -295,7 +308,7 @@ is_leave (Ok (Some (ReceivedFrame.OtherCommand s))) = false
 is_leave (Ok (Some ReceivedFrame.OtherFrame)) = false
 
 computed : Computed
-unfolding new_state new_nlme answer bad refuse outcome moved potential_cleared deciding_with with_chosen associate join_by with_scan scan_heard scan_decided continuing table_changed after_frame reception_decided transmission_decided parent_in tried_index skipped next_index next_in past_table taking adopted_next found ieee_of parent_of on_entries learnt marked adopted retained eligible depth_at candidates newer newest potential_parent_of entry_from neighbor_by present neighbors_of associating join_started failed_status invalid trying scan_or_end try_remembered rejoin_started try_candidate try_next try_failed rejoined responded answered_by polling poll_on request_sent taught_by taught rejoin_responded neighbor_left accepts_leave announcement leave_requested leave_handled handled negotiation_reset command_header link_cost shown flat_map
+unfolding new_state new_nlme answer bad refuse outcome moved potential_cleared deciding_with with_chosen associate join_by with_scan scan_heard scan_decided continuing table_changed after_frame reception_decided transmission_decided parent_in tried_index skipped next_index next_in past_table taking adopted_next found ieee_of parent_of on_entries learnt marked adopted retained eligible depth_at candidates newer newest potential_parent_of entry_from neighbor_by present neighbors_of associating join_started failed_status invalid trying scan_or_end try_remembered rejoin_started try_candidate try_next try_failed rejoined responded answered_by polling poll_on request_sent sender_of taught_by heard_from renewed rejoin_responded neighbor_left accepts_leave announcement leave_requested leave_handled handled negotiation_reset command_header link_cost shown flat_map
 computed =
     record {
       joins-past = refl;
@@ -321,6 +334,8 @@ computed =
       taught-without = refl;
       addresses-with = refl;
       addresses-without = refl;
+      times-with = refl;
+      times-without = refl;
       index-with = refl;
       index-without = refl;
       tries-twice = refl;

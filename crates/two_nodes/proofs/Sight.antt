@@ -21,9 +21,9 @@ use Rattle.nib.specs.Neighbors.{PARENT, NONE, entry_at, blank}
 use Rattle.nib.proofs.Tables.{entry-anywhere}
 use Rattle.nib.specs.declared.IeeeAddress.{IeeeAddress}
 use Rattle.nib.specs.declared.NwkNeighbor.{NwkNeighbor}
-use Rattle.nib.specs.NeighborTable.{has_address, is_parent, parent_of, seen_in, with_ieee, with_relationship, cleared, learnt, marked, adopted, all_cleared}
+use Rattle.nib.specs.NeighborTable.{has_address, is_parent, parent_of, seen_in, with_ieee, with_relationship, heard_at, cleared, learnt, renewed, marked, adopted, all_cleared}
 use Rattle.nib.proofs.Looks.{parent-cons}
-use Rattle.nib.proofs.Addressed.{look, ieee_in, seen, entry_seen, parent-seen, Mild, mild-relationship, mild-cleared, seen-change, seen-map, taught_to, seen-learnt, NoAddress, seen-fresh}
+use Rattle.nib.proofs.Addressed.{look, ieee_in, seen, entry_seen, parent-seen, Mild, mild-relationship, mild-cleared, seen-change, seen-map, taught_to, seen-learnt, seen-heard, seen-renewed, Fresh, seen-fresh}
 use Rattle.candidates.specs.UpdateIds.{of_network, newest}
 use Rattle.candidates.specs.Candidates.{depth_at, ordered, candidates}
 use Rattle.candidates.proofs.Laws.{member}
@@ -32,7 +32,7 @@ use Rattle.candidates.specs.Tries.{parent_in}
 use Rattle.discovery.specs.declared.mlme.Address.{Address}
 use Rattle.discovery.specs.declared.mlme.Address.TheVariants.{Short, Extended}
 use Rattle.discovery.specs.declared.mlme.PanDescriptor.{PanDescriptor}
-use Rattle.discovery.specs.Discovery.{entry_from, neighbor_by, present, neighbors_of}
+use Rattle.discovery.specs.Discovery.{entry_from, neighbor_by, present, neighbors_of, neighbors_heard}
 use Rattle.discovery.proofs.Scans.{network-neighbors}
 use Rattle.two_nodes.specs.Statement.{is_beacon_of}
 
@@ -200,11 +200,22 @@ module _ (n a : ℕ) (x : IeeeAddress) where
   unfolding learnt
   learnt-marks es = ap (marks n) (change-first (has_address a) (with_ieee x) es) ∙ marks-change (of_network n) (with_ieee x) (λ e. refl) (first_index (has_address a) es) es
 
+-- hearing: when an entry was heard is not seen
+
+module _ (n a t : ℕ) where
+  pub renewed-shows : (es : List NwkNeighbor) → shows n (renewed a t es) ≡ shows n es
+  unfolding shows
+  renewed-shows es = ap (select (visible n)) (seen-renewed t a es)
+
+  pub renewed-marks : (es : List NwkNeighbor) → marks n (renewed a t es) ≡ marks n es
+  unfolding renewed
+  renewed-marks es = ap (marks n) (change-first (has_address a) (heard_at t) es) ∙ marks-change (of_network n) (heard_at t) (λ e. refl) (first_index (has_address a) es) es
+
 -- A SCAN
 
--- a new entry has no IEEE address and is no parent
+-- a new entry has no IEEE address, no last-heard time, and is no parent
 abbrev New : NwkNeighbor → Type 0
-New e = NoAddress e × (is_parent e ≡ false)
+New e = Fresh e × (is_parent e ≡ false)
 
 all_new : (ds : List PanDescriptor) → All New (neighbors_of ds)
 unfolding neighbors_of flat_map present neighbor_by entry_from
@@ -212,7 +223,7 @@ all_new [] = tt
 all_new (d ∷ ds) = go d.coord_address (all_new ds)
   where
     go : (a : Address) → All New (neighbors_of ds) → All New (present (neighbor_by d a) ++ neighbors_of ds)
-    go (Short p a) h = ((refl, refl), h)
+    go (Short p a) h = (((refl, refl), refl), h)
     go (Extended p a) h = h
 
 new-visible : (n : ℕ) (es : List NwkNeighbor) → All New es → select (visible n) es ≡ select (of_network n) es
@@ -221,12 +232,12 @@ new-visible n (e ∷ es) h =
     let ih = new-visible n es h.1 in
     split (of_network n e) (λ t. rw t (ap (λ (z : List NwkNeighbor). e ∷ z) ih)) (λ t. rw (t, h.0.1) ih)
 
--- of a scan's table network n sees what its own beacons tell
-pub scan-shows : (n : ℕ) (ds : List PanDescriptor) → shows n (neighbors_of ds) ≡ neighbors_of (select (is_beacon_of n) ds)
+-- of a scan's table network n sees what its own beacons tell, whenever they were heard
+pub scan-shows : (n t : ℕ) (ds : List PanDescriptor) → shows n (neighbors_heard t ds) ≡ neighbors_of (select (is_beacon_of n) ds)
 unfolding shows
-scan-shows n ds =
+scan-shows n t ds =
     let new = all_new ds in
-    ap (select (visible n)) (seen-fresh (neighbors_of ds) (All-map New NoAddress (λ e h. h.0) (neighbors_of ds) new))
+    ap (select (visible n)) (seen-heard t (neighbors_of ds) ∙ seen-fresh (neighbors_of ds) (All-map New Fresh (λ e h. h.0) (neighbors_of ds) new))
     ∙ new-visible n (neighbors_of ds) new
     ∙ network-neighbors n ds
 

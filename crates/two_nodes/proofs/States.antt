@@ -21,15 +21,14 @@ use Rattle.nib.specs.Bits.{bit}
 use Rattle.nib.proofs.Tables.{entries-of}
 use Rattle.nib.specs.declared.CapabilityInformation.{CapabilityInformation}
 use Rattle.nib.specs.declared.ShortAddress.{ShortAddress}
-use Rattle.nib.specs.declared.NeighborTable.{NeighborTable}
 use Rattle.nib.specs.declared.NwkNeighbor.{NwkNeighbor}
-use Rattle.nib.specs.NeighborTable.{without_potential, on_entries, marked, potential_cleared_at, parent_of}
-use Rattle.nib.proofs.Entries.{on_same, entries-on, learnt-long, marked-long, adopted-long, cleared-long, potential-long}
+use Rattle.nib.specs.NeighborTable.{without_potential, heard_at, on_entries, marked, potential_cleared_at, parent_of}
+use Rattle.nib.proofs.Entries.{entries-on, marked-long, adopted-long, cleared-long, potential-long}
+use Rattle.management.specs.Frame.{sender_of}
 use Rattle.management.specs.declared.frame.Source.{Source}
 use Rattle.management.specs.declared.frame.ReceivedFrame.{ReceivedFrame}
-use Rattle.management.specs.declared.frame.ReceivedFrame.TheVariants.{Undecodable, Data, RejoinResponseCommand, TimeoutResponseCommand, LeaveCommand, OtherCommand, OtherFrame}
 use Rattle.discovery.specs.declared.mlme.PanDescriptor.{PanDescriptor}
-use Rattle.discovery.specs.Discovery.{neighbors_of, short_addressed}
+use Rattle.discovery.specs.Discovery.{neighbors_of, neighbors_heard, short_addressed}
 use Rattle.nib.proofs.Addressed.{mild-potential, taught_to}
 use Rattle.candidates.specs.UpdateIds.{of_network}
 use Rattle.candidates.specs.Candidates.{candidates, items_of, list_of}
@@ -42,11 +41,12 @@ use Rattle.operation.specs.declared.Move.{Move}
 use Rattle.operation.specs.declared.Move.TheVariants.{Stay, TakeNext, AdoptNext, JoinTried}
 use Rattle.node.specs.Looks.{with_table, entries, parent, tried, next, taken_next, moved, potential_cleared}
 use Rattle.node.specs.Refusals.{past_in, bad}
-use Rattle.node.specs.Calls.{with_chosen, with_scan, taught_on}
-use Rattle.nlme.specs.Received.{taught_by, taught}
+use Rattle.node.specs.Calls.{with_chosen, with_scan, heard_on}
+use Rattle.nlme.specs.Received.{taught_by, heard_from}
+use Rattle.nlme.proofs.Taught.{heard-long}
 use Rattle.node.specs.declared.State.{State}
 use Rattle.two_nodes.specs.Statement.{is_beacon_of}
-use Rattle.two_nodes.proofs.Sight.{shows, marks, Placed, nowhere, placed_at, parent-shows, entry-shows, changed-shows, adopted_in, adopted-shows, adopted-marks, joined_in, joined-shows, joined-ranks, learnt-shows, learnt-marks, scan-shows, choice_in, choice-ours, choice-shows}
+use Rattle.two_nodes.proofs.Sight.{shows, marks, Placed, nowhere, placed_at, parent-shows, entry-shows, changed-shows, adopted_in, adopted-shows, adopted-marks, joined_in, joined-shows, joined-ranks, learnt-shows, learnt-marks, renewed-shows, renewed-marks, scan-shows, choice_in, choice-ours, choice-shows}
 use Rattle.nib.specs.declared.IeeeAddress.{IeeeAddress}
 
 -- what is seen of the table; the places of all candidates among the network's own entries; and how many candidates have been taken
@@ -349,48 +349,27 @@ module _ (permit : Bool) (n : ℕ) (some : n ≡ 0 → ⊥) (i : CapabilityInfor
 
 -- a scan makes the table
 
-module _ (ds : List PanDescriptor) (s : State) (within : short_addressed ds ≤ 16) where
-  heard-entries : entries (with_scan ds s) ≡ neighbors_of ds
+module _ (t : ℕ) (ds : List PanDescriptor) (s : State) (within : short_addressed ds ≤ 16) where
+  heard-entries : entries (with_scan t ds s) ≡ neighbors_heard t ds
   unfolding with_scan
-  heard-entries = entries-of (neighbors_of ds)
+  heard-entries = entries-of (neighbors_heard t ds)
 
-  pub heard-tidy : s.candidates.list.count ≤ 16 → Tidy (with_scan ds s)
+  pub heard-tidy : s.candidates.list.count ≤ 16 → Tidy (with_scan t ds s)
   unfolding with_scan
-  heard-tidy h = record { small = within; few = h }
+  heard-tidy h = record { small = omega (arith, within, length-map (neighbors_of ds) (heard_at t)); few = h }
 
-  pub heard-list : (n : ℕ) → shows n (entries (with_scan ds s)) ≡ neighbors_of (select (is_beacon_of n) ds)
-  heard-list n = ap (shows n) heard-entries ∙ scan-shows n ds
+  pub heard-list : (n : ℕ) → shows n (entries (with_scan t ds s)) ≡ neighbors_of (select (is_beacon_of n) ds)
+  heard-list n = ap (shows n) heard-entries ∙ scan-shows n t ds
 
--- a frame teaches its sender's address
+-- a frame's sender is heard
 
-abbrev pub learnt_in : Option IeeeAddress → ShortAddress → List NwkNeighbor → List NwkNeighbor
+abbrev learnt_in : Option IeeeAddress → ShortAddress → List NwkNeighbor → List NwkNeighbor
 learnt_in None a l = l
 learnt_in (Some x) a l = map (taught_to a.0 x) l
 
--- who is said to have sent a frame; nobody teaches nothing
-abbrev pub sender : ReceivedFrame → Source
-sender Undecodable = record { address = record { 0 = 0 }; ieee = None }
-sender (Data f) = f
-sender (RejoinResponseCommand f r) = f
-sender (TimeoutResponseCommand f r) = f
-sender (LeaveCommand f d o) = f
-sender (OtherCommand f) = f
-sender OtherFrame = record { address = record { 0 = 0 }; ieee = None }
-
-taught_by_lem : (f : ReceivedFrame) (es : List NwkNeighbor) → taught f es ≡ taught_by (sender f).ieee (sender f).address es
-unfolding taught taught_by
-taught_by_lem Undecodable es = refl
-taught_by_lem (Data f) es = refl
-taught_by_lem (RejoinResponseCommand f r) es = refl
-taught_by_lem (TimeoutResponseCommand f r) es = refl
-taught_by_lem (LeaveCommand f d o) es = refl
-taught_by_lem (OtherCommand f) es = refl
-taught_by_lem OtherFrame es = refl
-
-by-long : (x : Option IeeeAddress) (a : ShortAddress) (es : List NwkNeighbor) → length (taught_by x a es) ≡ length es
-unfolding taught_by
-by-long None a es = refl
-by-long (Some x) a es = learnt-long a.0 x es
+abbrev pub heard_in : Option Source → List NwkNeighbor → List NwkNeighbor
+heard_in None l = l
+heard_in (Some f) l = learnt_in f.ieee f.address l
 
 by-marks : (n : ℕ) (x : Option IeeeAddress) (a : ShortAddress) (es : List NwkNeighbor) → marks n (taught_by x a es) ≡ marks n es
 unfolding taught_by
@@ -402,31 +381,29 @@ unfolding taught_by
 by-shows n None a es = refl
 by-shows n (Some x) a es = learnt-shows n a.0 x es
 
-abbrev pub taught_in : ReceivedFrame → Sight → Sight
-taught_in f v = record { list = learnt_in (sender f).ieee (sender f).address v.list; places = v.places; taken = v.taken }
+module _ (n t : ℕ) where
+  from-marks : (f : Option Source) (es : List NwkNeighbor) → marks n (heard_from f t es) ≡ marks n es
+  unfolding heard_from
+  from-marks None es = refl
+  from-marks (Some f) es = renewed-marks n f.address.0 t (taught_by f.ieee f.address es) ∙ by-marks n f.ieee f.address es
 
-module _ (n : ℕ) (f : ReceivedFrame) (s : State) where
-  abbrev lesson : List NwkNeighbor → List NwkNeighbor
-  lesson = taught_by (sender f).ieee (sender f).address
+  from-shows : (f : Option Source) (es : List NwkNeighbor) → shows n (heard_from f t es) ≡ heard_in f (shows n es)
+  unfolding heard_from
+  from-shows None es = refl
+  from-shows (Some f) es = renewed-shows n f.address.0 t (taught_by f.ieee f.address es) ∙ by-shows n f.ieee f.address es
 
-  teaching : taught_on f s ≡ with_table (on_entries lesson s.table) s
-  teaching = ap (λ (t : NeighborTable). with_table t s) (on_same (taught f) lesson s.table (taught_by_lem f (entries s)))
+  module _ (f : ReceivedFrame) (s : State) where
+    abbrev hearing : List NwkNeighbor → List NwkNeighbor
+    hearing = heard_from (sender_of f) t
 
-  taught-long : length (lesson (entries s)) ≡ length (entries s)
-  taught-long = by-long (sender f).ieee (sender f).address (entries s)
+    pub frame-sight : sight n (heard_on f t s) ≡ record { list = heard_in (sender_of f) (sight n s).list; places = (sight n s).places; taken = s.candidates.taken }
+    frame-sight = changed-sight n hearing s (heard-long (sender_of f) t (entries s)) (from-marks (sender_of f) (entries s)) (from-shows (sender_of f) (entries s))
 
-  taught-marks : marks n (lesson (entries s)) ≡ marks n (entries s)
-  taught-marks = by-marks n (sender f).ieee (sender f).address (entries s)
+    pub frame-tidy : Tidy s → Tidy (heard_on f t s)
+    frame-tidy d = changed-tidy n hearing s (heard-long (sender_of f) t (entries s)) d
 
-  pub taught-sight : sight n (taught_on f s) ≡ taught_in f (sight n s)
-  taught-sight = ap (sight n) teaching ∙ changed-sight n lesson s taught-long taught-marks (by-shows n (sender f).ieee (sender f).address (entries s))
-
-  pub taught-tidy : Tidy s → Tidy (taught_on f s)
-  unfolding on_entries
-  taught-tidy d = record { small = d.small; few = d.few }
-
-  pub taught-ours : Ours n s → Ours n (taught_on f s)
-  taught-ours o = subst⁻¹ (Ours n) teaching (changed-ours n lesson s taught-long taught-marks o)
+    pub frame-ours : Ours n s → Ours n (heard_on f t s)
+    frame-ours o = changed-ours n hearing s (heard-long (sender_of f) t (entries s)) (from-marks (sender_of f) (entries s)) o
 
 -- REFUSAL 5
 

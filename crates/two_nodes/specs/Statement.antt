@@ -1,6 +1,6 @@
 -- The statement of demand 3 (01, "Two nodes"): "Two nodes in equal states that differ only in what other networks' beacons they hear end up the same:
 -- one theorem over whole lists of calls."
-use Rattle.std.specs.Prelude.{Err, Option, Some, Result, Ok, ℕ, ◌<◌, ◌≤◌, ◌≡◌, Bool, true, false, List, [], ◌∷◌, eqb}
+use Rattle.std.specs.Prelude.{Err, Option, Some, Result, Ok, ℕ, ◌<◌, ◌≤◌, ◌≡◌, Bool, List, [], ◌∷◌, eqb}
 use Rattle.lists.specs.Lists.{select}
 use Rattle.nib.specs.declared.ShortAddress.{ShortAddress}
 use Rattle.discovery.specs.Mlme.{descriptors_of}
@@ -67,10 +67,11 @@ pub data AlikeScan (n : ℕ) : Result PanDescriptorList MacError → Result PanD
   above-16 : {l m : PanDescriptorList} → l.count ≤ 27 → m.count ≤ 27
       → 16 < short_addressed (descriptors_of l) → 16 < short_addressed (descriptors_of m) → AlikeScan n (Ok l) (Ok m)
 
--- two lists of calls that are equal but for what the scans heard
+-- two lists of calls that are equal but for what the scans heard. "Two nodes compared as to foreign beacons have equal clocks" (02, L4): the same at the same call.
+-- When an entry was last heard is not shown, and not compared: it differs (`times-with`, proofs/Examples.antt)
 pub data AlikeCall (n : ℕ) : Call → Call → Type 0 where
   same : (c : Call) → AlikeCall n c c
-  scans : {o p : Result PanDescriptorList MacError} → AlikeScan n o p → AlikeCall n (scan o) (scan p)
+  scans : {o p : Result PanDescriptorList MacError} {t : ℕ} → AlikeScan n o p → AlikeCall n (scan o t) (scan p t)
 
 pub data AlikeCalls (n : ℕ) : List Call → List Call → Type 0 where
   none : AlikeCalls n [] []
@@ -106,10 +107,10 @@ Allowed n s (send destination secure) = NoneUnderWay s → ⊥
 Allowed n s poll = NoneUnderWay s → ⊥
 Allowed n s receive = NoneUnderWay s → ⊥
 Allowed n s (timeout u) = NoneUnderWay s → ⊥
-Allowed n s (scan o) = Unit {0}
+Allowed n s (scan o t) = Unit {0}
 Allowed n s (association o) = Unit {0}
 Allowed n s (transmission ok) = Unit {0}
-Allowed n s (reception o) = NoLeave s o
+Allowed n s (reception o t) = NoLeave s o
 Allowed n s (elapsed ms) = Unit {0}
 Allowed n s take_leave = Unit {0}
 Allowed n s take_status = Unit {0}
