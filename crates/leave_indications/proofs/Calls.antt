@@ -36,7 +36,7 @@ use Rattle.operation.specs.declared.TransmissionFor.{TransmissionFor}
 use Rattle.exchange.specs.Exchange.{receive_started}
 use Rattle.node.specs.Looks.{parent, broadcast, next, deciding_with}
 use Rattle.node.specs.Refusals.{refuse, start, outcome}
-use Rattle.node.specs.Calls.{with_chosen, associate, join_by, scan_failed, with_scan, scan_heard, scan_decided, continuing, go_on, with_node, table_changed, after_frame, handled_on, taught_on, processed, reception_decided, after_leave, transmission_decided, Call, discovery, join, send, poll, receive, timeout, scan, association, transmission, reception, elapsed, take_leave, take_status, made, answer}
+use Rattle.node.specs.Calls.{with_chosen, associate, join_by, scan_failed, with_scan, scan_heard, scan_decided, continuing, go_on, with_node, table_changed, after_frame, handled_on, heard_on, processed, reception_decided, after_leave, transmission_decided, Call, discovery, join, send, poll, receive, timeout, scan, association, transmission, reception, elapsed, take_leave, take_status, made, answer}
 use Rattle.node.specs.declared.Answer.{Answer}
 use Rattle.node.specs.declared.State.{State}
 use Rattle.refusals.specs.Statement.{phase, Bad}
@@ -98,15 +98,15 @@ timeout-slot r n =
     (λ _. refl) refl
 
 -- a leave command
-module _ (u : ReceptionFor) (s : State) (f : Source) (d : ShortAddress) (o : LeaveOptions) where
+module _ (u : ReceptionFor) (s : State) (f : Source) (d : ShortAddress) (o : LeaveOptions) (t : ℕ) where
   abbrev here : State
-  here = learned s f d o
+  here = learned s f d o t
 
   abbrev n : Nlme
   n = s.control.nlme
 
   abbrev accepted : Bool
-  accepted = accepts_leave n.nib d (by_parent s f d o)
+  accepted = accepts_leave n.nib d (by_parent s f d o t)
 
   abbrev whole : Handled
   whole = leave_handled (parent here) (broadcast here) f d o n
@@ -135,9 +135,9 @@ module _ (u : ReceptionFor) (s : State) (f : Source) (d : ShortAddress) (o : Lea
   device-slot false x y p q = q
 
   pub left-slot : o.request ≡ false
-      → indication handling.state ≡ indicated (cond (by_parent s f d o) LeavingDevice.ThisDevice (neighbor_leaving f.ieee f.address)) o.rejoin
+      → indication handling.state ≡ indicated (cond (by_parent s f d o t) LeavingDevice.ThisDevice (neighbor_leaving f.ieee f.address)) o.rejoin
   unfolding handled neighbor_left
-  left-slot e = handled-slot u whole here ∙ ap (λ (h : Handled). slot h.nlme) (left_is e) ∙ device-slot (by_parent s f d o) _ _ refl refl
+  left-slot e = handled-slot u whole here ∙ ap (λ (h : Handled). slot h.nlme) (left_is e) ∙ device-slot (by_parent s f d o t) _ _ refl refl
 
   left-phase : o.request ≡ false → NotLeaving (phase handling.state)
   unfolding handled
@@ -161,12 +161,12 @@ module _ (u : ReceptionFor) (s : State) (f : Source) (d : ShortAddress) (o : Lea
 
   pub accepted-phase : o.request ≡ true → accepted ≡ true → phase handling.state ≡ announcing u o.rejoin
   unfolding handled leave_requested after_frame deciding_with
-  accepted-phase e t = ap (λ (h : Handled). phase (handled_on u h here).state) (asked_is e ∙ cond-true accepted announced_then declined t)
+  accepted-phase e q = ap (λ (h : Handled). phase (handled_on u h here).state) (asked_is e ∙ cond-true accepted announced_then declined q)
 
   declined-phase : o.request ≡ true → accepted ≡ false → NotLeaving (phase handling.state)
   unfolding handled leave_requested
-  declined-phase e t =
-      subst⁻¹ (λ (h : Handled). NotLeaving (phase (handled_on u h here).state)) (asked_is e ∙ cond-false accepted announced_then declined t) (over-phase u _ _)
+  declined-phase e q =
+      subst⁻¹ (λ (h : Handled). NotLeaving (phase (handled_on u h here).state)) (asked_is e ∙ cond-false accepted announced_then declined q) (over-phase u _ _)
 
 -- EVERY CALL
 
@@ -221,20 +221,20 @@ join-got s r RejoinNetwork.NwkRejoin = made_got s (join r) false _ _ (rejoin-mad
 join-got s r RejoinNetwork.ChannelChange = made_got s (join r) false _ _ (refl, refl, tt, tt)
 
 -- a scan
-scan-got : (s : State) (o : Result PanDescriptorList MacError) (u : ScanFor) → Got s (scan o) (scan_decided o u s)
+scan-got : (s : State) (o : Result PanDescriptorList MacError) (t : ℕ) (u : ScanFor) → Got s (scan o t) (scan_decided o t u s)
 unfolding scan_decided scan_failed scan_heard with_scan with_chosen
-scan-got s (Err e) u = failed u
+scan-got s (Err e) t u = failed u
   where
-    failed : (v : ScanFor) → Got s (scan (Err e)) (scan_failed v s)
-    failed ScanFor.Discovery = made_got s (scan (Err e)) false _ _ (refl, refl, tt, tt)
-    failed ScanFor.Rejoin = made_got s (scan (Err e)) false _ _ (refl, refl, tt, tt)
-scan-got s (Ok l) u =
-    by_cases (Got s (scan (Ok l))) (ltb 27 l.count) (λ _. refused-got s (scan (Ok l)) TooManyDescriptors)
-    (by_cases (Got s (scan (Ok l))) (ltb 16 (short_addressed (descriptors_of l))) (λ _. refused-got s (scan (Ok l)) TooManyShortAddressed) (found u))
+    failed : (v : ScanFor) → Got s (scan (Err e) t) (scan_failed v s)
+    failed ScanFor.Discovery = made_got s (scan (Err e) t) false _ _ (refl, refl, tt, tt)
+    failed ScanFor.Rejoin = made_got s (scan (Err e) t) false _ _ (refl, refl, tt, tt)
+scan-got s (Ok l) t u =
+    by_cases (Got s (scan (Ok l) t)) (ltb 27 l.count) (λ _. refused-got s (scan (Ok l) t) TooManyDescriptors)
+    (by_cases (Got s (scan (Ok l) t)) (ltb 16 (short_addressed (descriptors_of l))) (λ _. refused-got s (scan (Ok l) t) TooManyShortAddressed) (found u))
   where
-    found : (v : ScanFor) → Got s (scan (Ok l)) (scan_heard v (with_scan (descriptors_of l) s))
-    found ScanFor.Discovery = made_got s (scan (Ok l)) false _ _ (refl, refl, tt, tt)
-    found ScanFor.Rejoin = made_got s (scan (Ok l)) false _ _ (next-made _ _ s.control)
+    found : (v : ScanFor) → Got s (scan (Ok l) t) (scan_heard v (with_scan t (descriptors_of l) s))
+    found ScanFor.Discovery = made_got s (scan (Ok l) t) false _ _ (refl, refl, tt, tt)
+    found ScanFor.Rejoin = made_got s (scan (Ok l) t) false _ _ (next-made _ _ s.control)
 
 -- a transmission
 left-slot-after : (rejoin : Bool) (s : State) → indication (after_leave rejoin s) ≡ indicated LeavingDevice.ThisDevice rejoin
@@ -265,11 +265,11 @@ indicates {f = f} l (holds p) x e = inl (f, l, p)
 indicates {f = f} l (fails p) None e = (f, l, p, e, refl)
 indicates {f = f} l (fails p) (Some x) e = (f, l, p, e)
 
-module _ (s : State) (u : ReceptionFor) (w : Awaits s (Phase.Reception u)) where
+module _ (s : State) (u : ReceptionFor) (w : Awaits s (Phase.Reception u)) (t : ℕ) where
   abbrev call : ReceivedFrame → Call
-  call f = reception (Ok (Some f))
+  call f = reception (Ok (Some f)) t
 
-  leave-got : (f : Source) (d : ShortAddress) (o : LeaveOptions) → Got s (call (ReceivedFrame.LeaveCommand f d o)) (handling u s f d o)
+  leave-got : (f : Source) (d : ShortAddress) (o : LeaveOptions) → Got s (call (ReceivedFrame.LeaveCommand f d o)) (handling u s f d o t)
   leave-got f d o = go o.request refl
     where
       brought : (b : Bool) → o.request ≡ b → Brought s (call (ReceivedFrame.LeaveCommand f d o)) u f d b o.rejoin
@@ -277,24 +277,25 @@ module _ (s : State) (u : ReceptionFor) (w : Awaits s (Phase.Reception u)) where
           record {
             awaited = w;
             children = o.remove_children;
+            clock = t;
             call = λ i. call (ReceivedFrame.LeaveCommand f d (record { request = e i; rejoin = o.rejoin; remove_children = o.remove_children }));
           }
 
-      go : (b : Bool) → o.request ≡ b → Got s (call (ReceivedFrame.LeaveCommand f d o)) (handling u s f d o)
+      go : (b : Bool) → o.request ≡ b → Got s (call (ReceivedFrame.LeaveCommand f d o)) (handling u s f d o t)
       go false e =
-          (says _ o.rejoin (indicates (u, d, brought false e) (from_told s f d o) f.ieee refl) (left-slot u s f d o e), elsewhere (left-phase u s f d o e), not_taken (handling-told u s f d o))
-      go true e = (kept (request-slot u s f d o e), answered (accepts-told s f d o) refl, not_taken (handling-told u s f d o))
+          (says _ o.rejoin (indicates (u, d, brought false e) (from_told s f d o t) f.ieee refl) (left-slot u s f d o t e), elsewhere (left-phase u s f d o t e), not_taken (handling-told u s f d o t))
+      go true e = (kept (request-slot u s f d o t e), answered (accepts-told s f d o t) refl, not_taken (handling-told u s f d o t))
         where
-          answered : {b : Bool} → Tells (Accepts s f d) b → accepts_leave s.control.nlme.nib d (by_parent s f d o) ≡ b
-              → Next s (call (ReceivedFrame.LeaveCommand f d o)) (handling u s f d o)
-          answered (holds a) t = announced u o.rejoin (f, d, brought true e, a) (accepted-phase u s f d o e t)
-          answered (fails a) t = elsewhere (declined-phase u s f d o e t)
+          answered : {b : Bool} → Tells (Accepts s f d) b → accepts_leave s.control.nlme.nib d (by_parent s f d o t) ≡ b
+              → Next s (call (ReceivedFrame.LeaveCommand f d o)) (handling u s f d o t)
+          answered (holds a) q = announced u o.rejoin (f, d, brought true e, a) (accepted-phase u s f d o t e q)
+          answered (fails a) q = elsewhere (declined-phase u s f d o t e q)
 
   -- any other frame
-  plain-got : (f : ReceivedFrame) (m : Nlme) (a : PollAnswer) → slot m ≡ indication s → Got s (call f) (handled_on u (dealt_with m a) (taught_on f s))
-  plain-got f m a e = (kept (handled-slot u (dealt_with m a) (taught_on f s) ∙ e), elsewhere (over-phase u a _), not_taken (handled-told u (dealt_with m a) (taught_on f s)))
+  plain-got : (f : ReceivedFrame) (m : Nlme) (a : PollAnswer) → slot m ≡ indication s → Got s (call f) (handled_on u (dealt_with m a) (heard_on f t s))
+  plain-got f m a e = (kept (handled-slot u (dealt_with m a) (heard_on f t s) ∙ e), elsewhere (over-phase u a _), not_taken (handled-told u (dealt_with m a) (heard_on f t s)))
 
-  frame-got : (f : ReceivedFrame) → Got s (call f) (processed u f (taught_on f s))
+  frame-got : (f : ReceivedFrame) → Got s (call f) (processed u f (heard_on f t s))
   unfolding handled
   frame-got ReceivedFrame.Undecodable = plain-got _ s.control.nlme _ refl
   frame-got (ReceivedFrame.Data f) = plain-got _ s.control.nlme _ refl
@@ -304,7 +305,7 @@ module _ (s : State) (u : ReceptionFor) (w : Awaits s (Phase.Reception u)) where
   frame-got (ReceivedFrame.OtherCommand f) = plain-got _ s.control.nlme _ refl
   frame-got ReceivedFrame.OtherFrame = plain-got _ s.control.nlme _ refl
 
-  reception-got : (o : Result (Option ReceivedFrame) MacError) → Got s (reception o) (reception_decided o u s)
+  reception-got : (o : Result (Option ReceivedFrame) MacError) → Got s (reception o t) (reception_decided o t u s)
   unfolding reception_decided
   reception-got (Ok None) = made_got s _ false _ _ (continuing-made u _ _ _ s.control)
   reception-got (Err e) = made_got s _ false _ _ (continuing-made u _ _ _ s.control)
@@ -316,13 +317,14 @@ unfolding expiry_signalled link_failure deciding_with
 tick-slot s ms = by_cases (λ (n : Nlme). slot n ≡ indication s) (ticked s.control.nlme.parent_timer ms).expired (λ _. refl) refl
 
 module _ (s : State) (good : Bad s → ⊥) where
-  reception-answered : (o : Result (Option ReceivedFrame) MacError) (p : Phase) → phase s ≡ p → Got s (reception o) (outcome (reception_for p) (reception_decided o) s)
+  reception-answered : (o : Result (Option ReceivedFrame) MacError) (t : ℕ) (p : Phase) → phase s ≡ p
+      → Got s (reception o t) (outcome (reception_for p) (reception_decided o t) s)
   unfolding outcome
-  reception-answered o (Phase.Reception u) e = reception-got s u (good, e) o
-  reception-answered o Phase.Idle e = refused-got s _ NotAwaited
-  reception-answered o (Phase.Scan u) e = refused-got s _ NotAwaited
-  reception-answered o Phase.Association e = refused-got s _ NotAwaited
-  reception-answered o (Phase.Transmission u) e = refused-got s _ NotAwaited
+  reception-answered o t (Phase.Reception u) e = reception-got s u (good, e) t o
+  reception-answered o t Phase.Idle e = refused-got s _ NotAwaited
+  reception-answered o t (Phase.Scan u) e = refused-got s _ NotAwaited
+  reception-answered o t Phase.Association e = refused-got s _ NotAwaited
+  reception-answered o t (Phase.Transmission u) e = refused-got s _ NotAwaited
 
   transmission-answered : (ok : Bool) (p : Phase) → phase s ≡ p → Got s (transmission ok) (outcome (transmission_for p) (transmission_decided ok) s)
   unfolding outcome
@@ -340,10 +342,10 @@ module _ (s : State) (good : Bad s → ⊥) where
   call-got poll = start-got s _ _ (made_got s _ false _ _ (poll_started-made _ s.control))
   call-got receive = start-got s _ _ (made_got s _ false _ _ (refl, refl, tt, tt))
   call-got (timeout u) = start-got s _ _ (made_got s _ false _ _ (timeout-made u _ s.control))
-  call-got (scan o) = outcome-got s _ (scan_for (phase s)) _ (scan-got s o)
+  call-got (scan o t) = outcome-got s _ (scan_for (phase s)) _ (scan-got s o t)
   call-got (association o) = outcome-got s _ (association_for (phase s)) _ (λ _. made_got s _ false _ _ (associated-made o _ _ s.control))
   call-got (transmission ok) = transmission-answered ok (phase s) refl
-  call-got (reception o) = reception-answered o (phase s) refl
+  call-got (reception o t) = reception-answered o t (phase s) refl
   call-got (elapsed ms) = (kept (tick-slot s ms), stays refl, not_taken tt)
   call-got take_leave = (takes refl good refl, stays refl, taking refl)
   call-got take_status = (kept refl, stays refl, not_taken tt)

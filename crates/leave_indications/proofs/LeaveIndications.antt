@@ -80,22 +80,22 @@ module _ {s : State} {c : Call} {u : ReceptionFor} {f : Source} {d : ShortAddres
   abbrev o : LeaveOptions
   o = options request rejoin b.children
 
-  brought-answer : answer s c ≡ handling u s f d o
+  brought-answer : answer s c ≡ handling u s f d o b.clock
   unfolding outcome reception_decided
   brought-answer =
       ap (answer s) b.call
       ∙ answer-good s _ b.awaited.0
-      ∙ ap (λ (p : Phase). outcome (reception_for p) (reception_decided (Ok (Some (ReceivedFrame.LeaveCommand f d o)))) s) b.awaited.1
+      ∙ ap (λ (p : Phase). outcome (reception_for p) (reception_decided (Ok (Some (ReceivedFrame.LeaveCommand f d o))) b.clock) s) b.awaited.1
 
 module _ {s : State} {c : Call} {f : Source} {rejoin : Bool} (l : Leaves s c f rejoin) where
-  left-answer : indication (answer s c).state ≡ indicated (cond (by_parent s f l.1 (o l.2)) LeavingDevice.ThisDevice (neighbor_leaving f.ieee f.address)) rejoin
-  left-answer = ap (λ a. indication a.state) (brought-answer l.2) ∙ left-slot l.0 s f l.1 (o l.2) refl
+  left-answer : indication (answer s c).state ≡ indicated (cond (by_parent s f l.1 (o l.2) l.2.clock) LeavingDevice.ThisDevice (neighbor_leaving f.ieee f.address)) rejoin
+  left-answer = ap (λ a. indication a.state) (brought-answer l.2) ∙ left-slot l.0 s f l.1 (o l.2) l.2.clock refl
 
   parent-answer : FromParent f s → indication (answer s c).state ≡ indicated LeavingDevice.ThisDevice rejoin
-  parent-answer p = left-answer ∙ rw (told-true (from_told s f l.1 (o l.2)) p)
+  parent-answer p = left-answer ∙ rw (told-true (from_told s f l.1 (o l.2) l.2.clock) p)
 
   neighbor-answer : (FromParent f s → ⊥) → indication (answer s c).state ≡ indicated (neighbor_leaving f.ieee f.address) rejoin
-  neighbor-answer n = left-answer ∙ rw (told-false (from_told s f l.1 (o l.2)) n)
+  neighbor-answer n = left-answer ∙ rw (told-false (from_told s f l.1 (o l.2) l.2.clock) n)
 
 -- THE STATEMENT
 
@@ -149,7 +149,7 @@ never-ours s c f rejoin other l n e = false≢true (sym (go f.ieee) ∙ ap (λ x
 
 nothing_yet : (s : State) (c : Call) (u : ReceptionFor) (f : Source) (d : ShortAddress) (rejoin : Bool) → Brought s c u f d true rejoin
     → indication (answer s c).state ≡ indication s
-nothing_yet s c u f d rejoin b = ap (λ a. indication a.state) (brought-answer b) ∙ request-slot u s f d (o b) refl
+nothing_yet s c u f d rejoin b = ap (λ a. indication a.state) (brought-answer b) ∙ request-slot u s f d (o b) b.clock refl
 
 -- the purpose and the rejoin bit of an announcement that is awaited; in another phase any
 abbrev purpose_of : Phase → ReceptionFor
@@ -202,10 +202,10 @@ module _ (s : State) (u : ReceptionFor) (rejoin : Bool) (e : phase s ≡ announc
   made-phase poll n = started-phase _
   made-phase receive n = started-phase _
   made-phase (timeout t) n = started-phase _
-  made-phase (scan o) n = other-phase scan_for _ refl
+  made-phase (scan o t) n = other-phase scan_for _ refl
   made-phase (association o) n = other-phase association_for _ refl
   made-phase (transmission sent) n = absurd (n sent refl)
-  made-phase (reception o) n = other-phase reception_for _ refl
+  made-phase (reception o t) n = other-phase reception_for _ refl
   made-phase (elapsed ms) n = e
   made-phase take_leave n = e
   made-phase take_status n = e
@@ -230,7 +230,7 @@ announces s c u rejoin = (λ e. to e (answer-got s c).1, ⊎_elim from (λ w. wa
         inl (subst (λ (x : ReceptionFor). Requested s c x rejoin) (ap purpose_of (sym k ∙ e)) (subst (λ (x : Bool). Requested s c v x) (ap bit_of (sym k ∙ e)) q))
 
     from : Requested s c u rejoin → phase (answer s c).state ≡ announcing u rejoin
-    from (f, d, b, a) = ap (λ x. phase x.state) (brought-answer b) ∙ accepted-phase u s f d (o b) refl (told-true (accepts-told s f d (o b)) a)
+    from (f, d, b, a) = ap (λ x. phase x.state) (brought-answer b) ∙ accepted-phase u s f d (o b) b.clock refl (told-true (accepts-told s f d (o b) b.clock) a)
 
 only-taken : (s : State) (c : Call) (x : Option NlmeLeaveIndication) → (answer s c).step ≡ Step.LeaveTaken x → c ≡ take_leave
 only-taken s c x e = go (answer-got s c).2
@@ -252,9 +252,9 @@ module _ (t : ParentTimer) (ms : ℕ) (s : State) where
   lent =
       (lent_by (λ x. indication x ≡ indication s) refl refl (tick-slot (with_parent_timer t s) ms), lent_by (λ x. phase x ≡ phase s) refl refl refl)
 
-confirmed : (s : State) (o : Result PanDescriptorList MacError) → (scanned o s).answer ≡ answer s (scan o)
+confirmed : (s : State) (o : Result PanDescriptorList MacError) (t : ℕ) → (scanned o t s).answer ≡ answer s (scan o t)
 unfolding scanned
-confirmed s o = refl
+confirmed s o t = refl
 
 -- the restart of the timer
 refresh-kept : (s : State) → (indication (refresh s).state ≡ indication s) × (phase (refresh s).state ≡ phase s)

@@ -14,16 +14,19 @@ use Rattle.nib.specs.declared.IeeeAddress.{IeeeAddress}
 use Rattle.nib.specs.declared.NeighborTable.{NeighborTable}
 use Rattle.nib.specs.declared.NwkNeighbor.{NwkNeighbor}
 use Rattle.nib.specs.declared.ShortAddress.{ShortAddress}
-use Rattle.nib.specs.NeighborTable.{has_address, is_parent, parent_of, seen_in, with_ieee, on_entries, learnt}
-use Rattle.nib.proofs.Entries.{on_same, on-kept, entries-on, learnt-long}
+use Rattle.nib.specs.NeighborTable.{has_address, is_parent, parent_of, seen_in, with_ieee, on_entries, learnt, renewed}
+use Rattle.nib.proofs.Addressed.{parent-seen, seen-renewed}
+use Rattle.nib.proofs.Entries.{entries-on}
 use Rattle.nib.proofs.Looks.{parent-cons}
 use Rattle.candidates.specs.Tries.{parent_in}
+use Rattle.management.specs.Frame.{sender_of}
 use Rattle.management.specs.declared.frame.LeaveOptions.{LeaveOptions}
 use Rattle.management.specs.declared.frame.ReceivedFrame.{ReceivedFrame}
 use Rattle.management.specs.declared.frame.Source.{Source}
-use Rattle.nlme.specs.Received.{taught_by, taught, is_from_parent, accepts_leave}
+use Rattle.nlme.specs.Received.{taught_by, heard_from, is_from_parent, accepts_leave}
+use Rattle.nlme.proofs.Taught.{heard-long}
 use Rattle.node.specs.Looks.{parent}
-use Rattle.node.specs.Calls.{taught_on}
+use Rattle.node.specs.Calls.{heard_on}
 use Rattle.node.specs.declared.State.{State}
 use Rattle.refusals.proofs.Conditions.{Tells, holds, fails, same-told, above-told}
 use Rattle.leave_indications.specs.Statement.{ParentHas, FromParent, Accepts}
@@ -61,7 +64,7 @@ parent-told a (e ∷ es) = subst⁻¹ (λ (n : Option NwkNeighbor). Tells (Paren
     go (holds h) t = same-told (λ k. inl (h, k)) (⊎_elim (λ x. x.1) (λ x. absurd (x.0 h))) (equal-told e.network_address.0 a.0)
     go (fails h) t = same-told (λ k. inr (h, k)) (⊎_elim (λ x. absurd (h x.0)) (λ x. x.1)) t
 
--- an entry's IEEE address, as it is seen and as it is learnt, has no part in it
+-- an entry's IEEE address, as it is seen and as it is learnt, has no part in it, and neither has the time at which it was last heard
 seen-parent : (a : ShortAddress) (es : List NwkNeighbor) → is_from_parent (parent_in es) a ≡ is_from_parent (parent_of es) a
 unfolding parent_in
 seen-parent a es = go (parent_of es)
@@ -86,31 +89,35 @@ learnt-parent a b x (e ∷ es) =
     later true h = refl
     later false h = h
 
-taught-parent : (x : Option IeeeAddress) (b a : ShortAddress) (t : NeighborTable)
-    → is_from_parent (parent_in (entries_of (on_entries (taught_by x b) t))) a ≡ is_from_parent (parent_of (entries_of t)) a
+taught-parent : (x : Option IeeeAddress) (b a : ShortAddress) (es : List NwkNeighbor)
+    → is_from_parent (parent_in (taught_by x b es)) a ≡ is_from_parent (parent_of es) a
 unfolding taught_by
-taught-parent None b a t =
-    ap (λ (u : NeighborTable). is_from_parent (parent_in (entries_of u)) a) (on-kept (taught_by None b) t refl) ∙ seen-parent a (entries_of t)
-taught-parent (Some x) b a t =
-    ap (λ (es : List NwkNeighbor). is_from_parent (parent_in es) a) (entries-on (taught_by (Some x) b) t (learnt-long b.0 x (entries_of t)))
-    ∙ seen-parent a (learnt b.0 x (entries_of t))
-    ∙ learnt-parent a b.0 x (entries_of t)
+taught-parent None b a es = seen-parent a es
+taught-parent (Some x) b a es = seen-parent a (learnt b.0 x es) ∙ learnt-parent a b.0 x es
 
-module _ (s : State) (f : Source) (d : ShortAddress) (o : LeaveOptions) where
-  -- the state that a leave command is handled in: it has taught its sender's address
+renewed-parent : (b t : ℕ) (es : List NwkNeighbor) → parent_in (renewed b t es) ≡ parent_in es
+unfolding parent_in
+renewed-parent b t es = parent-seen (renewed b t es) ∙ ap parent_of (seen-renewed t b es) ∙ sym (parent-seen es)
+
+heard-parent : (f : Source) (t : ℕ) (n : NeighborTable)
+    → is_from_parent (parent_in (entries_of (on_entries (heard_from (Some f) t) n))) f.address ≡ is_from_parent (parent_of (entries_of n)) f.address
+unfolding heard_from
+heard-parent f t n =
+    ap (λ (es : List NwkNeighbor). is_from_parent (parent_in es) f.address) (entries-on (heard_from (Some f) t) n (heard-long (Some f) t (entries_of n)))
+    ∙ ap (λ (p : Option NwkNeighbor). is_from_parent p f.address) (renewed-parent f.address.0 t (taught_by f.ieee f.address (entries_of n)))
+    ∙ taught-parent f.ieee f.address f.address (entries_of n)
+
+module _ (s : State) (f : Source) (d : ShortAddress) (o : LeaveOptions) (t : ℕ) where
+  -- the state that a leave command is handled in: it has taught its sender's address, and its sender was heard
   abbrev pub learned : State
-  learned = taught_on (ReceivedFrame.LeaveCommand f d o) s
+  learned = heard_on (ReceivedFrame.LeaveCommand f d o) t s
 
   abbrev pub by_parent : Bool
   by_parent = is_from_parent (parent learned) f.address
 
   pub from_told : Tells (FromParent f s) by_parent
-  unfolding taught
-  from_told =
-      subst⁻¹ (Tells (FromParent f s))
-      (ap (λ (t : NeighborTable). is_from_parent (parent_in (entries_of t)) f.address) (on_same (taught (ReceivedFrame.LeaveCommand f d o)) (taught_by f.ieee f.address) s.table refl)
-      ∙ taught-parent f.ieee f.address f.address s.table)
-      (parent-told f.address (entries_of s.table))
+  unfolding sender_of
+  from_told = subst⁻¹ (Tells (FromParent f s)) (heard-parent f t s.table) (parent-told f.address (entries_of s.table))
 
   -- REQUESTS
 

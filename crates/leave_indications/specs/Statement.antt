@@ -42,11 +42,13 @@ FromParent f s = ParentHas f.address (take s.table.count s.table.entries)
 abbrev pub Awaits : State → Phase → Type 0
 Awaits s p = (Bad s → ⊥) × (phase s ≡ p)
 
--- a call hands in a leave command that a poll or a receive for u has brought: its sender and destination, its request bit and its rejoin bit
+-- a call hands in a leave command that a poll or a receive for u has brought, at any time of the caller's clock: its sender and destination, its request bit
+-- and its rejoin bit
 pub record Brought (s : State) (c : Call) (u : ReceptionFor) (f : Source) (d : ShortAddress) (request rejoin : Bool) : Type 0 where
   pub awaited : Awaits s (Phase.Reception u)
   pub children : Bool
-  pub call : c ≡ reception (Ok (Some (ReceivedFrame.LeaveCommand f d (record { request = request; rejoin = rejoin; remove_children = children }))))
+  pub clock : ℕ
+  pub call : c ≡ reception (Ok (Some (ReceivedFrame.LeaveCommand f d (record { request = request; rejoin = rejoin; remove_children = children })))) clock
 
 -- a leave without the request bit
 abbrev pub Leaves : State → Call → Source → Bool → Type 0
@@ -92,7 +94,7 @@ pub record LeaveIndications : Type 0 where
   -- a tick over a lent record leaves the slot, and what is awaited. The call that hands out a scan's confirm answers as the scan's outcome does
   pub lent : (t : ParentTimer) (ms : ℕ) (s : State)
       → (indication (lent_tick t ms s).answer.state ≡ indication s) × (phase (lent_tick t ms s).answer.state ≡ phase s)
-  pub confirmed : (s : State) (o : Result PanDescriptorList MacError) → (scanned o s).answer ≡ answer s (scan o)
+  pub confirmed : (s : State) (o : Result PanDescriptorList MacError) (t : ℕ) → (scanned o t s).answer ≡ answer s (scan o t)
   -- the restart of the timer, which is no case of `Call`, leaves both too
   pub refreshed : (s : State) → (indication (refresh s).state ≡ indication s) × (phase (refresh s).state ≡ phase s)
   -- no leave without the request bit from another than the parent is indicated as this device, whatever stood in the slot

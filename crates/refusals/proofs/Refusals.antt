@@ -5,8 +5,7 @@ use mathlib.Core.Path.{◌≡◌, refl, sym, ap, subst, subst⁻¹, ◌∙◌}
 use mathlib.Core.Bool.{Bool, true, false, cond, false≢true}
 use mathlib.Core.List.{List, [], ◌∷◌}
 use mathlib.Core.Logic.{◌⊎◌, inl, inr, ⊎_elim, ◌↔◌}
-use native.Mathlib.Omega.{arith}
-use lib.Dec.{eqb, ltb}
+use lib.Dec.{eqb}
 use lib.ListN.{length}
 use Rattle.lists.proofs.Conditions.{by_cases}
 use Rattle.discovery.specs.Mlme.{descriptors_of}
@@ -27,7 +26,7 @@ use Rattle.exchange.specs.Exchange.{receive_started}
 use Rattle.neighbor_page.specs.Page.{too_short, written}
 use Rattle.node.specs.Looks.{potential_cleared, moved, deciding_with, deciding}
 use Rattle.node.specs.Refusals.{refuse, bad, start, outcome}
-use Rattle.node.specs.Calls.{associate, join_by, scan_failed, with_scan, scan_heard, scan_decided, go_on, after_frame, reception_decided, after_leave, transmission_decided, Call, discovery, join, send, poll, receive, timeout, scan, association, transmission, reception, elapsed, take_leave, take_status, made, answer, confirm_by, scanned, choose, refresh, page_answer, page_left}
+use Rattle.node.specs.Calls.{associate, join_by, scan_failed, scan_heard, scan_decided, go_on, after_frame, reception_decided, after_leave, transmission_decided, Call, discovery, join, send, poll, receive, timeout, scan, association, transmission, reception, elapsed, take_leave, take_status, made, answer, confirm_by, scanned, choose, refresh, page_answer, page_left}
 use Rattle.node.specs.declared.State.{State}
 use Rattle.node.specs.declared.Answer.{Answer}
 use Rattle.lent_tick.specs.LentTick.{with_parent_timer, lent_turned_down, with_record, lent_tick}
@@ -100,10 +99,10 @@ unfolding scan_heard
 scan_heard-made ScanFor.Discovery s = carried false s _ refl
 scan_heard-made ScanFor.Rejoin s = carried false _ _ (next-made _ _ _).0
 
-scan-made : (o : Result PanDescriptorList MacError) (s : State) (u : ScanFor) → Gets s (scan_decided o u s) ((3, Above27 o) ∷ (4, Above16 o) ∷ [])
+scan-made : (o : Result PanDescriptorList MacError) (t : ℕ) (s : State) (u : ScanFor) → Gets s (scan_decided o t u s) ((3, Above27 o) ∷ (4, Above16 o) ∷ [])
 unfolding scan_decided
-scan-made (Err e) s u = passed (λ (h : ⊥). h) (passed (λ (h : ⊥). h) (done (scan_failed-made u s)))
-scan-made (Ok l) s u =
+scan-made (Err e) t s u = passed (λ (h : ⊥). h) (passed (λ (h : ⊥). h) (done (scan_failed-made u s)))
+scan-made (Ok l) t s u =
     tested TooManyDescriptors refl (above-told 27 l.count)
     (tested TooManyShortAddressed refl
     (same-told (λ h. subst⁻¹ (λ (n : ℕ). 16 < n) (shorts-are (descriptors_of l)) h) (λ h. subst (λ (n : ℕ). 16 < n) (shorts-are (descriptors_of l)) h) (above-told 16 (short_addressed (descriptors_of l))))
@@ -118,11 +117,11 @@ unfolding after_frame
 after-made u (Then.Over a) s = go_on-made false u a s
 after-made u (Then.Announce a) s = carried false s _ refl
 
-reception-made : (o : Result (Option ReceivedFrame) MacError) (s : State) (u : ReceptionFor) → Done (reception_decided o u s)
+reception-made : (o : Result (Option ReceivedFrame) MacError) (t : ℕ) (s : State) (u : ReceptionFor) → Done (reception_decided o t u s)
 unfolding reception_decided
-reception-made (Ok None) s u = go_on-made false u _ s
-reception-made (Err e) s u = go_on-made false u _ s
-reception-made (Ok (Some f)) s u = after-made u _ _
+reception-made (Ok None) t s u = go_on-made false u _ s
+reception-made (Err e) t s u = go_on-made false u _ s
+reception-made (Ok (Some f)) t s u = after-made u _ _
 
 -- a transmission
 transmission-made : (ok : Bool) (s : State) (u : TransmissionFor) → Done (transmission_decided ok u s)
@@ -142,10 +141,10 @@ answer-made s (send d secure) = tested BadState refl (bad-told s) (start-made s 
 answer-made s poll = tested BadState refl (bad-told s) (start-made s _ (carried false s _ (poll_started-made _ _).0))
 answer-made s receive = tested BadState refl (bad-told s) (start-made s _ (carried false s _ refl))
 answer-made s (timeout u) = tested BadState refl (bad-told s) (start-made s _ (carried false s _ (timeout-made u _ _).0))
-answer-made s (scan o) = tested BadState refl (bad-told s) (outcome-made s (scan_for (phase s)) _ (scan-told (phase s)) (scan-made o s))
+answer-made s (scan o t) = tested BadState refl (bad-told s) (outcome-made s (scan_for (phase s)) _ (scan-told (phase s)) (scan-made o t s))
 answer-made s (association o) = tested BadState refl (bad-told s) (outcome-made s (association_for (phase s)) _ (association-told (phase s)) (λ _. done (carried false s _ (associated-made o _ _ _).0)))
 answer-made s (transmission ok) = tested BadState refl (bad-told s) (outcome-made s (transmission_for (phase s)) _ (transmission-told (phase s)) (λ u. done (transmission-made ok s u)))
-answer-made s (reception o) = tested BadState refl (bad-told s) (outcome-made s (reception_for (phase s)) _ (reception-told (phase s)) (λ u. done (reception-made o s u)))
+answer-made s (reception o t) = tested BadState refl (bad-told s) (outcome-made s (reception_for (phase s)) _ (reception-told (phase s)) (λ u. done (reception-made o t s u)))
 answer-made s (elapsed ms) = tested BadState refl (bad-told s) (done (carried false s _ refl))
 answer-made s take_leave = tested BadState refl (bad-told s) (done (carried false s _ refl))
 answer-made s take_status = tested BadState refl (bad-told s) (done (carried false s _ refl))
@@ -254,8 +253,8 @@ demand-1 =
     record {
       numbered = refl;
       answered = λ s c. by-numbers (answer-made s c);
-      confirmed = λ s o. by-numbers (answer-made s (scan o));
-      unconfirmed = λ s o r e. ap (λ (x : Step). confirm_by x o) e ∙ unconfirmed r o;
+      confirmed = λ s o t. by-numbers (answer-made s (scan o t));
+      unconfirmed = λ s o t r e. ap (λ (x : Step). confirm_by x o) e ∙ unconfirmed r o;
       lent = λ t ms s. by-numbers (lent-made t ms s);
       refreshed = λ s. by-numbers (refresh-made s);
       record-kept = kept;

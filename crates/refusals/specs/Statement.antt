@@ -2,7 +2,7 @@
 -- refusal the state, and every lent buffer, is as handed in. No prior check is expected of the caller."
 -- The numbers, their order and their conditions stand here as 01 has them ("When a call is turned down").
 -- They rest on no definition of a refusal's tests; which refusal has which number stands here too (`numbered`).
-use Rattle.std.specs.Prelude.{Option, Some, None, Result, Ok, Err, is_ok, true, ℕ, suc, ◌-◌, ◌<◌, ◌≤◌, ◌≡◌, Bool, false, List, [], ◌∷◌, map, ◌⊎◌, ◌↔◌, length, take, drop}
+use Rattle.std.specs.Prelude.{None, Result, Ok, Err, is_ok, true, ℕ, suc, ◌-◌, ◌<◌, ◌≤◌, ◌≡◌, Bool, false, List, [], ◌∷◌, map, ◌⊎◌, ◌↔◌, length, take, drop}
 use Rattle.discovery.specs.declared.mlme.Address.{Address}
 use Rattle.supervision.specs.declared.parent_timer.ParentTimer.{ParentTimer}
 use Rattle.operation.specs.declared.ReceptionFor.{ReceptionFor}
@@ -68,10 +68,10 @@ numbers s (send destination secure) = (5, Bad s) ∷ (1, UnderWay s) ∷ []
 numbers s poll = (5, Bad s) ∷ (1, UnderWay s) ∷ []
 numbers s receive = (5, Bad s) ∷ (1, UnderWay s) ∷ []
 numbers s (timeout u) = (5, Bad s) ∷ (1, UnderWay s) ∷ []
-numbers s (scan o) = (5, Bad s) ∷ (2, (u : ScanFor) → phase s ≡ Phase.Scan u → ⊥) ∷ (3, Above27 o) ∷ (4, Above16 o) ∷ []
+numbers s (scan o t) = (5, Bad s) ∷ (2, (u : ScanFor) → phase s ≡ Phase.Scan u → ⊥) ∷ (3, Above27 o) ∷ (4, Above16 o) ∷ []
 numbers s (association o) = (5, Bad s) ∷ (2, phase s ≡ Phase.Association → ⊥) ∷ []
 numbers s (transmission ok) = (5, Bad s) ∷ (2, (u : TransmissionFor) → phase s ≡ Phase.Transmission u → ⊥) ∷ []
-numbers s (reception o) = (5, Bad s) ∷ (2, (u : ReceptionFor) → phase s ≡ Phase.Reception u → ⊥) ∷ []
+numbers s (reception o t) = (5, Bad s) ∷ (2, (u : ReceptionFor) → phase s ≡ Phase.Reception u → ⊥) ∷ []
 numbers s (elapsed ms) = (5, Bad s) ∷ []
 numbers s take_leave = (5, Bad s) ∷ []
 numbers s take_status = (5, Bad s) ∷ []
@@ -101,14 +101,15 @@ abbrev pub Unchosen : ℕ → Result CandidateList Refusal → Type 0
 Unchosen k (Err r) = refusal_number r ≡ k
 Unchosen k (Ok l) = ⊥
 
--- the claim, of any call on any state; of the call that hands out a scan's confirm too, which then hands out none;
+-- the claim, of any call on any state, at any time t of the caller's clock; of the call that hands out a scan's confirm too, which then hands out none;
 -- of the tick over a lent record ("State and lent buffers then stay as handed in");
 -- and of the choice of candidates, which has no state to hand back, and has no list where it is turned down
 pub record Demand1 : Type 0 where
   pub numbered : map refusal_number (OperationUnderWay ∷ NotAwaited ∷ TooManyDescriptors ∷ TooManyShortAddressed ∷ BadState ∷ ShortPage ∷ []) ≡ 1 ∷ 2 ∷ 3 ∷ 4 ∷ 5 ∷ 6 ∷ []
   pub answered : (s : State) (c : Call) → RefusedBy s (numbers s c) (answer s c)
-  pub confirmed : (s : State) (o : Result PanDescriptorList MacError) → RefusedBy s (numbers s (scan o)) (scanned o s).answer
-  pub unconfirmed : (s : State) (o : Result PanDescriptorList MacError) (r : Refusal) → (scanned o s).answer.step ≡ Step.Refused r → (scanned o s).confirm ≡ None
+  pub confirmed : (s : State) (o : Result PanDescriptorList MacError) (t : ℕ) → RefusedBy s (numbers s (scan o t)) (scanned o t s).answer
+  pub unconfirmed : (s : State) (o : Result PanDescriptorList MacError) (t : ℕ) (r : Refusal)
+      → (scanned o t s).answer.step ≡ Step.Refused r → (scanned o t s).confirm ≡ None
   pub lent : (t : ParentTimer) (ms : ℕ) (s : State) → RefusedBy s ((5, Bad s) ∷ []) (lent_tick t ms s).answer
   pub record-kept : (t : ParentTimer) (ms : ℕ) (s : State) → Bad s → (lent_tick t ms s).timer ≡ t
   pub choice : (n : ℕ) (router permit : Bool) (s : State)

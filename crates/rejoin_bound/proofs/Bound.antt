@@ -25,7 +25,6 @@ use Rattle.operation.specs.declared.Leaving.{Leaving}
 use Rattle.operation.specs.declared.Phase.{Phase}
 use Rattle.operation.specs.declared.Control.{Control}
 use Rattle.operation.specs.declared.RadioRequest.{RadioRequest}
-use Rattle.operation.specs.declared.Note.{Note}
 use Rattle.operation.specs.declared.Step.{Step}
 use Rattle.operation.specs.declared.Move.{Move}
 use Rattle.operation.specs.declared.Decision.{Decision}
@@ -34,7 +33,7 @@ use Rattle.join.specs.Join.{failing, associating, reset_negotiation, store_capab
 use Rattle.join.specs.Rejoin.{invalid, trying, try_remembered, begun, rejoin_started}
 use Rattle.node.specs.Looks.{with_table, entries, parent, next, broadcast, moved, potential_cleared, deciding_with, deciding}
 use Rattle.node.specs.Refusals.{refuse, bad, outcome}
-use Rattle.node.specs.Calls.{with_chosen, associate, join_by, scan_failed, with_scan, scan_heard, scan_decided, association_decided, continuing, go_on, with_node, table_changed, after_frame, taught_on, reception_decided, after_leave, transmission_decided, Call, discovery, join, send, poll, receive, timeout, scan, association, transmission, reception, elapsed, take_leave, take_status, made, answer}
+use Rattle.node.specs.Calls.{with_chosen, associate, join_by, scan_failed, with_scan, scan_heard, scan_decided, association_decided, continuing, go_on, with_node, table_changed, after_frame, heard_on, reception_decided, after_leave, transmission_decided, Call, discovery, join, send, poll, receive, timeout, scan, association, transmission, reception, elapsed, take_leave, take_status, made, answer}
 use Rattle.node.specs.declared.State.{State}
 use Rattle.node.specs.declared.Answer.{Answer}
 use Rattle.rejoin_bound.specs.Bound.{for_rejoin, in_rejoin, is_outcome, is_refused, is_accepted, outcomes, RejoinBound}
@@ -139,24 +138,26 @@ left-within c s true h = go_on-within (after_leave true s) c false _ h
 left-within c s false h = go_on-within (after_leave false s) c true _ h
 
 module _ (s : State) where
-  received-within : (o : Result (Option ReceivedFrame) MacError) → Within (weight (Phase.Reception ReceptionFor.RejoinResponse) s) (reception o) (reception_decided o ReceptionFor.RejoinResponse s)
+  received-within : (o : Result (Option ReceivedFrame) MacError) (t : ℕ)
+      → Within (weight (Phase.Reception ReceptionFor.RejoinResponse) s) (reception o t) (reception_decided o t ReceptionFor.RejoinResponse s)
   unfolding reception_decided
-  received-within (Ok None) = go_on-within s _ false _ (omega arith)
-  received-within (Err e) = go_on-within s _ false _ (omega arith)
-  received-within (Ok (Some f)) =
-      let h = handled (parent (taught_on f s)) (broadcast (taught_on f s)) f s.control.nlme in
-      changed-within (reception (Ok (Some f))) (with_node h.nlme (taught_on f s)) h.removed h.then (omega arith)
+  received-within (Ok None) t = go_on-within s _ false _ (omega arith)
+  received-within (Err e) t = go_on-within s _ false _ (omega arith)
+  received-within (Ok (Some f)) t =
+      let h = handled (parent (heard_on f t s)) (broadcast (heard_on f t s)) f s.control.nlme in
+      changed-within (reception (Ok (Some f)) t) (with_node h.nlme (heard_on f t s)) h.removed h.then (omega arith)
 
-  scanned-within : (o : Result PanDescriptorList MacError) → Phase.Scan ScanFor.Rejoin ≡ s.control.operation.phase → Within (weight (Phase.Scan ScanFor.Rejoin) s) (scan o) (scan_decided o ScanFor.Rejoin s)
+  scanned-within : (o : Result PanDescriptorList MacError) (t : ℕ) → Phase.Scan ScanFor.Rejoin ≡ s.control.operation.phase
+      → Within (weight (Phase.Scan ScanFor.Rejoin) s) (scan o t) (scan_decided o t ScanFor.Rejoin s)
   unfolding scan_decided scan_failed scan_heard with_scan with_chosen
-  scanned-within (Err e) q = carried (scan (Err e)) false s _ (failing-drops s _ s.control (omega arith))
-  scanned-within (Ok l) q =
-      let o : Result PanDescriptorList MacError = Ok l in
+  scanned-within (Err e) t q = carried (scan (Err e) t) false s _ (failing-drops s _ s.control (omega arith))
+  scanned-within (Ok l) t q =
+      let c = scan (Ok l) t in
       let ds = descriptors_of l in
-      let t = with_chosen false s.control.operation.extended_pan_id.0 s.control.nlme.nib.capability_information (with_scan ds s) in
-      either (Within _ (scan o)) (ltb 27 l.count) (λ _. turned_down s (scan o) TooManyDescriptors (Phase.Scan ScanFor.Rejoin) q)
-      (λ _. either (Within _ (scan o)) (ltb 16 (short_addressed ds)) (λ _. turned_down s (scan o) TooManyShortAddressed (Phase.Scan ScanFor.Rejoin) q)
-      (λ _. carried (scan o) false t _ (try_next-drops t _ (next t) s.control refl (omega arith) (λ _. omega arith))))
+      let z = with_chosen false s.control.operation.extended_pan_id.0 s.control.nlme.nib.capability_information (with_scan t ds s) in
+      either (Within _ c) (ltb 27 l.count) (λ _. turned_down s c TooManyDescriptors (Phase.Scan ScanFor.Rejoin) q)
+      (λ _. either (Within _ c) (ltb 16 (short_addressed ds)) (λ _. turned_down s c TooManyShortAddressed (Phase.Scan ScanFor.Rejoin) q)
+      (λ _. carried c false z _ (try_next-drops z _ (next z) s.control refl (omega arith) (λ _. omega arith))))
 
   -- each call in a phase of a rejoin, which is the state's: a start and the outcome of an association are refused
   start-within : (c : Call) (a : Answer) {p : Phase} → Rejoining p → p ≡ s.control.operation.phase → Within (weight p s) c (cond (is_idle p) a (refuse OperationUnderWay s))
@@ -165,12 +166,13 @@ module _ (s : State) where
   start-within c a (leaving rejoin) q = turned_down s c OperationUnderWay _ q
   start-within c a polling q = turned_down s c OperationUnderWay _ q
 
-  scan-within : (o : Result PanDescriptorList MacError) {p : Phase} → Rejoining p → p ≡ s.control.operation.phase → Within (weight p s) (scan o) (outcome (scan_for p) (scan_decided o) s)
+  scan-within : (o : Result PanDescriptorList MacError) (t : ℕ) {p : Phase} → Rejoining p → p ≡ s.control.operation.phase
+      → Within (weight p s) (scan o t) (outcome (scan_for p) (scan_decided o t) s)
   unfolding outcome
-  scan-within o scanning q = scanned-within o q
-  scan-within o sending q = turned_down s (scan o) NotAwaited _ q
-  scan-within o (leaving rejoin) q = turned_down s (scan o) NotAwaited _ q
-  scan-within o polling q = turned_down s (scan o) NotAwaited _ q
+  scan-within o t scanning q = scanned-within o t q
+  scan-within o t sending q = turned_down s (scan o t) NotAwaited _ q
+  scan-within o t (leaving rejoin) q = turned_down s (scan o t) NotAwaited _ q
+  scan-within o t polling q = turned_down s (scan o t) NotAwaited _ q
 
   association-within : (o : Result AssociationResponse MacError) {p : Phase} → Rejoining p → p ≡ s.control.operation.phase
       → Within (weight p s) (association o) (outcome (association_for p) (association_decided o) s)
@@ -188,13 +190,13 @@ module _ (s : State) where
   transmission-within ok (leaving rejoin) q = left-within (transmission ok) s rejoin (omega arith)
   transmission-within ok polling q = turned_down s (transmission ok) NotAwaited _ q
 
-  reception-within : (o : Result (Option ReceivedFrame) MacError) {p : Phase} → Rejoining p → p ≡ s.control.operation.phase
-      → Within (weight p s) (reception o) (outcome (reception_for p) (reception_decided o) s)
+  reception-within : (o : Result (Option ReceivedFrame) MacError) (t : ℕ) {p : Phase} → Rejoining p → p ≡ s.control.operation.phase
+      → Within (weight p s) (reception o t) (outcome (reception_for p) (reception_decided o t) s)
   unfolding outcome
-  reception-within o scanning q = turned_down s (reception o) NotAwaited _ q
-  reception-within o sending q = turned_down s (reception o) NotAwaited _ q
-  reception-within o (leaving rejoin) q = turned_down s (reception o) NotAwaited _ q
-  reception-within o polling q = received-within o
+  reception-within o t scanning q = turned_down s (reception o t) NotAwaited _ q
+  reception-within o t sending q = turned_down s (reception o t) NotAwaited _ q
+  reception-within o t (leaving rejoin) q = turned_down s (reception o t) NotAwaited _ q
+  reception-within o t polling q = received-within o t
 
   -- a tick or a taking changes the node's own part only
   told : (c : Call) (x : Step) (n : Nlme) → is_outcome c ≡ false → Within (measure s) c (deciding s (telling x (with_nlme n s.control)))
@@ -209,10 +211,10 @@ module _ (s : State) where
     made-within poll = start-within _ _ r refl
     made-within receive = start-within _ _ r refl
     made-within (timeout x) = start-within _ _ r refl
-    made-within (scan o) = scan-within o r refl
+    made-within (scan o t) = scan-within o t r refl
     made-within (association o) = association-within o r refl
     made-within (transmission ok) = transmission-within ok r refl
-    made-within (reception o) = reception-within o r refl
+    made-within (reception o t) = reception-within o t r refl
     made-within (elapsed ms) = told _ _ _ refl
     made-within take_leave = told _ _ _ refl
     made-within take_status = told _ _ _ refl

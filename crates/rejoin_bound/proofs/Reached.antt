@@ -1,4 +1,4 @@
--- A rejoin of 698 outcomes, computed. Assumes nothing.
+-- A rejoin of 698 outcomes, computed, at time 0 of the caller's clock. Assumes nothing.
 use Rattle.std.specs.Prelude.{Some, Ok, None}
 use Prim.Native.Nat.{ℕ, zero, suc}
 use mathlib.Core.Path.{refl}
@@ -9,18 +9,19 @@ use Rattle.nib.specs.Attributes.{blank_nib}
 use Rattle.nib.specs.Neighbors.{blank, table_of}
 use Rattle.nib.specs.declared.NwkNeighbor.{NwkNeighbor}
 use Rattle.nib.specs.declared.DeviceType.TheVariants.{Router}
-use Rattle.nib.specs.NeighborTable.{parent_of, on_entries, adopted, marked}
+use Rattle.nib.specs.NeighborTable.{parent_of, on_entries, renewed, adopted, marked}
 use Rattle.discovery.specs.declared.mlme.PanDescriptor.{PanDescriptor}
 use Rattle.discovery.specs.declared.mlme.Address.TheVariants.{Short}
 use Rattle.discovery.specs.Discovery.{potential_parent_of, entry_from, neighbor_by, present, neighbors_of}
 use Rattle.candidates.specs.UpdateIds.{newer, newest}
 use Rattle.candidates.specs.Candidates.{eligible, candidates}
 use Rattle.candidates.specs.Tries.{parent_in, skipped, next_index, next_in, taking, adopted_next}
+use Rattle.management.specs.Frame.{sender_of}
 use Rattle.management.specs.declared.RejoinNetwork.TheVariants.{NwkRejoin}
 use Rattle.management.specs.declared.NlmeJoinRequest.{NlmeJoinRequest}
 use Rattle.management.specs.declared.frame.ReceivedFrame.TheVariants.{LeaveCommand}
 use Rattle.nlme.specs.Nlme.{new_nlme, negotiation_reset}
-use Rattle.nlme.specs.Received.{taught_by, taught, accepts_leave, leave_requested, leave_handled, handled, left_for, leave_announced}
+use Rattle.nlme.specs.Received.{taught_by, heard_from, accepts_leave, leave_requested, leave_handled, handled, left_for, leave_announced}
 use Rattle.operation.specs.Operation.{polling, poll_on}
 use Rattle.join.specs.Rejoin.{invalid, trying, scan_or_end, try_remembered, rejoin_started, try_candidate, try_next, try_failed, answered_by, request_sent}
 use Rattle.node.specs.Beginning.{new_state}
@@ -87,7 +88,7 @@ beacons zero = []
 beacons (suc n) = beacon (suc n) ∷ beacons n
 
 abbrev heard_beacons : Call
-heard_beacons = scan (Ok (record { descriptors = beacons 27; count = 16 }))
+heard_beacons = scan (Ok (record { descriptors = beacons 27; count = 16 })) 0
 
 -- each poll brings a leave request that is announced
 abbrev leave_request : Call
@@ -96,6 +97,7 @@ leave_request =
     (Ok
     (Some
     (LeaveCommand (record { address = record { 0 = 7 }; ieee = None }) (record { 0 = 9 }) (record { request = true; rejoin = true; remove_children = false }))))
+    0
 
 abbrev times : ℕ → List Call → List Call
 times zero l = []
@@ -108,9 +110,9 @@ abbrev calls : List Call
 calls = unanswered_try ++ (heard_beacons ∷ times 16 unanswered_try)
 
 pub bound-reached : BoundReached
-unfolding new_state new_nlme answer bad outcome join_by rejoin_started invalid try_remembered trying negotiation_reset deciding_with moved potential_cleared parent_in parent_of
-    transmission_decided request_sent answered_by polling poll_on try_failed scan_or_end reception_decided taught taught_by on_entries handled leave_handled leave_requested
-    accepts_leave table_changed after_frame after_leave leave_announced left_for continuing scan_decided scan_heard with_scan neighbors_of neighbor_by entry_from present
-    potential_parent_of with_chosen candidates eligible link_cost newest newer flat_map try_next try_candidate next_in next_index skipped taking adopted_next
-    adopted marked
+unfolding new_state new_nlme answer bad outcome join_by rejoin_started invalid try_remembered trying negotiation_reset deciding_with moved potential_cleared
+    parent_in parent_of transmission_decided request_sent answered_by polling poll_on try_failed scan_or_end reception_decided sender_of heard_from
+    taught_by renewed on_entries handled leave_handled leave_requested accepts_leave table_changed after_frame after_leave leave_announced left_for
+    continuing scan_decided scan_heard with_scan neighbors_of neighbor_by entry_from present potential_parent_of with_chosen candidates eligible link_cost
+    newest newer flat_map try_next try_candidate next_in next_index skipped taking adopted_next adopted marked
 bound-reached = (lost, request, calls, refl, refl)
