@@ -1,4 +1,5 @@
 -- The laws of `refusals`.
 pub mod Conditions
 pub mod Decisions
+pub mod Moves
 pub mod Refusals

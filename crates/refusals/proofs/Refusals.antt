@@ -33,6 +33,7 @@ use Rattle.lent_tick.specs.LentTick.{with_parent_timer, lent_turned_down, with_r
 use Rattle.lent_tick.specs.declared.LentTicked.{LentTicked}
 use Rattle.refusals.specs.Statement.{phase, Bad, UnderWay, Above27, Above16, numbers, First, TurnedDown, RefusedBy, Unchosen, Demand1}
 use Rattle.refusals.proofs.Conditions.{Tells, holds, fails, Told, awaits, awaits-none, same-told, above-told, bad-told, idle-told, scan-told, association-told, transmission-told, reception-told, shorts-are}
+use Rattle.refusals.proofs.Moves.{forth-refused, back-refused}
 use Rattle.refusals.proofs.Decisions.{Uses, join-made, associated-made, rejoin-made, next-made, request-made, send-made, sent-made, poll_started-made, timeout-made, timeout_sent-made, continuing-made}
 use Rattle.discovery.specs.declared.mlme.MacError.{MacError}
 use Rattle.management.specs.declared.frame.ReceivedFrame.{ReceivedFrame}
@@ -262,4 +263,7 @@ demand-1 =
       page = λ b s. by-numbers (page-made (length b) s);
       page-kept = page-kept;
       page-reads = page-reads;
+      moves-numbered = refl;
+      forth = forth-refused;
+      back = back-refused;
     }

@@ -18,6 +18,10 @@ use Rattle.node.specs.Calls.{Call, discovery, join, send, poll, receive, timeout
 use Rattle.node.specs.declared.State.{State}
 use Rattle.node.specs.declared.Answer.{Answer}
 use Rattle.lent_tick.specs.LentTick.{lent_tick}
+use Rattle.neighbor_line.specs.NeighborLine.{old_forms, entry_forms, last_heard_in}
+use Rattle.neighbor_line.specs.Moves.{move_refusal_number, is_line_of, fields_of_line, forth_text, back_text, forth_answer, forth_left, back_answer, back_left}
+use Rattle.neighbor_line.specs.declared.MoveRefusal.{MoveRefusal}
+use Rattle.neighbor_line.specs.declared.MoveRefusal.TheVariants.{NotOfForm, ShortBuffer, LastHeardKnown}
 use Rattle.discovery.specs.declared.mlme.MacError.{MacError}
 use Rattle.discovery.specs.declared.mlme.PanDescriptorList.{PanDescriptorList}
 
@@ -101,6 +105,25 @@ abbrev pub Unchosen : ℕ → Result CandidateList Refusal → Type 0
 Unchosen k (Err r) = refusal_number r ≡ k
 Unchosen k (Ok l) = ⊥
 
+-- a line's move (02, L4), which has no state: "A line not of the form it starts from gives 5, then a lent buffer shorter than the result 6";
+-- back "7, a line moved back whose last-heard is not 0, as the last check of that move". The room is that of the lent buffer
+abbrev pub forth_numbers : List ℕ → ℕ → List (ℕ × Type 0)
+forth_numbers t room = (5, is_line_of old_forms t ≡ false) ∷ (6, room < length (forth_text t)) ∷ []
+
+abbrev pub back_numbers : List ℕ → ℕ → List (ℕ × Type 0)
+back_numbers t room = (5, is_line_of entry_forms t ≡ false) ∷ (6, room < length (back_text t)) ∷ (7, last_heard_in (fields_of_line t) ≡ 0 → ⊥) ∷ []
+
+-- a move is turned down by k
+abbrev pub Unmoved : ℕ → Result ℕ MoveRefusal → Type 0
+Unmoved k (Err r) = move_refusal_number r ≡ k
+Unmoved k (Ok n) = ⊥
+
+-- k is given if its condition is the first that holds, and only then; where none holds the line is moved. After a refusal the lent buffer b is as handed in
+pub record MoveRefusedBy (cs : List (ℕ × Type 0)) (r : Result ℕ MoveRefusal) (b left : List ℕ) : Type 0 where
+  pub given : (k : ℕ) → First k cs → Unmoved k r
+  pub only : (e : MoveRefusal) → r ≡ Err e → First (move_refusal_number e) cs
+  pub stays : (e : MoveRefusal) → r ≡ Err e → left ≡ b
+
 -- the claim, of any call on any state, at any time t of the caller's clock; of the call that hands out a scan's confirm too, which then hands out none;
 -- of the tick over a lent record ("State and lent buffers then stay as handed in");
 -- and of the choice of candidates, which has no state to hand back, and has no list where it is turned down
@@ -121,3 +144,7 @@ pub record Demand1 : Type 0 where
   pub page : (b : List ℕ) (s : State) → RefusedBy s ((5, Bad s) ∷ (6, length b < 816) ∷ []) (page_answer (length b) s)
   pub page-kept : (b : List ℕ) (s : State) → Bad s ⊎ (length b < 816) → page_left b s ≡ b
   pub page-reads : (n : ℕ) (s : State) → (page_answer n s).state ≡ s
+  -- a line's move forth and back, for any bytes and any lent buffer
+  pub moves-numbered : map move_refusal_number (NotOfForm ∷ ShortBuffer ∷ LastHeardKnown ∷ []) ≡ 5 ∷ 6 ∷ 7 ∷ []
+  pub forth : (t b : List ℕ) → MoveRefusedBy (forth_numbers t (length b)) (forth_answer t (length b)) b (forth_left t b)
+  pub back : (t b : List ℕ) → MoveRefusedBy (back_numbers t (length b)) (back_answer t (length b)) b (back_left t b)
