@@ -4,4 +4,5 @@ pub mod Numbers
 pub mod Powers
 pub mod Decimals
 pub mod Sizes
+pub mod Forms
 pub mod Written
