@@ -1,13 +1,14 @@
 -- Laws of the forms of a line's fields. Assumes nothing.
 use Prim.Native.Nat.{ℕ, suc, ◌+◌, ◌-◌, ◌^◌, ◌<◌, ◌≤◌, zero-le}
-use mathlib.Core.Path.{◌≡◌, refl, sym, ap, subst}
-use mathlib.Core.Bool.{Bool, true, false, false≢true, ◌&&◌}
-use mathlib.Core.List.{List, [], ◌∷◌}
+use mathlib.Core.Path.{◌≡◌, refl, sym, ap, subst, ◌∙◌}
+use mathlib.Core.Bool.{Bool, true, false, false≢true, and-true, ◌&&◌}
+use mathlib.Core.List.{List, [], ◌∷◌, ◌++◌}
 use native.Mathlib.Omega.{arith}
 use borrow.Author.Tests.{ltb-true}
 use lib.Dec.{ltb}
 use lib.ListN.{length, get_or}
 use Rattle.std.proofs.lemmas.Bool.{and_parts}
+use Rattle.std.proofs.Math.Bool.{and_assoc}
 use Rattle.lists.specs.Lists.{every}
 use Rattle.std.specs.List.{list_all, zip}
 use Rattle.text.specs.declared.form.Form.{Form}
@@ -36,6 +37,19 @@ module _ {n : ℕ} where
   fit_each [] (f ∷ fs) h = let x : ⊥ = omega (arith, h) in absurd x
   fit_each (m ∷ ms) [] h = let x : ⊥ = omega (arith, h) in absurd x
   fit_each (m ∷ ms) (f ∷ fs) h = ap (λ (b : Bool). has_form m f && b) (fit_each ms fs (omega (arith, h)))
+
+  pub forms-long : (ms : List (Form n)) (fs : List (List ℕ)) → have_forms ms fs ≡ true → length fs ≡ length ms
+  forms-long [] [] h = refl
+  forms-long [] (f ∷ fs) h = absurd (false≢true h)
+  forms-long (m ∷ ms) [] h = absurd (false≢true h)
+  forms-long (m ∷ ms) (f ∷ fs) h = ap suc (forms-long ms fs (and_parts (has_form m f) (have_forms ms fs) h).1)
+
+  -- a field and a form more
+  pub forms-more : (ms : List (Form n)) (fs : List (List ℕ)) (m : Form n) (f : List ℕ) → length fs ≡ length ms → have_forms (ms ++ (m ∷ [])) (fs ++ (f ∷ [])) ≡ (have_forms ms fs && has_form m f)
+  forms-more [] [] m f l = and-true (has_form m f)
+  forms-more [] (g ∷ fs) m f l = let x : ⊥ = omega (arith, l) in absurd x
+  forms-more (o ∷ ms) [] m f l = let x : ⊥ = omega (arith, l) in absurd x
+  forms-more (o ∷ ms) (g ∷ fs) m f l = ap (λ (b : Bool). has_form o g && b) (forms-more ms fs m f (omega (arith, l))) ∙ sym (and_assoc (has_form o g) (have_forms ms fs) (has_form m f))
 
   -- how long a field of a form is at most, and whether that is said of it: of decimal numbers of 32 bits
   abbrev pub most : Form n → ℕ

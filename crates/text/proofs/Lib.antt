@@ -1,5 +1,6 @@
 -- The laws of `text`.
 pub mod Parts
+pub mod Joined
 pub mod Numbers
 pub mod Powers
 pub mod Decimals

@@ -1,11 +1,12 @@
 -- The yard list (01, "The yard list"): what is printed for what is read, each as the list of its bytes. 9 is the tab, 10 the line feed.
-use Rattle.std.specs.Prelude.{ℕ, suc, ◌+◌, ◌-◌, Bool, false, cond, ◌&&◌, List, [], ◌∷◌, ◌++◌, map, eqb, ltb, leb, length, take, get_or}
-use Rattle.nib.specs.Neighbors.{NONE, device_type_at, blank}
+use Rattle.std.specs.Prelude.{ℕ, suc, ◌+◌, ◌-◌, Bool, cond, ◌&&◌, List, [], ◌∷◌, ◌++◌, map, eqb, ltb, leb, length, take, get_or}
+use Rattle.nib.specs.Neighbors.{blank}
 use Rattle.nib.specs.declared.NwkNeighbor.{NwkNeighbor}
 use Rattle.candidates.specs.Candidates.{candidates}
 use Rattle.text.specs.Text.{bytes, parts, fields, decimal_text, hex_text}
 use Rattle.text.specs.declared.form.Form.{Form}
 use Rattle.text.specs.declared.form.Form.TheVariants.{Word, Hex, Decimal}
+use Rattle.neighbor_line.specs.NeighborLine.{entry_read}
 use Rattle.text.specs.Form.{have_forms, hex_at, decimal_at, flag_at}
 
 -- line 1: `request`, extended PAN id, role, permit wanted, stack profile
@@ -25,31 +26,6 @@ is_good k line = cond (eqb k 0) (have_forms request_forms (fields line)) (leb k 
 abbrev pub good_from : ℕ → List (List ℕ) → ℕ
 good_from k [] = 0
 good_from k (l ∷ ls) = cond (is_good k l) (suc (good_from (suc k) ls)) 0
-
--- the neighbour entry of a line's fields: IEEE address 0 and relationship NONE (3), as a scan makes it (01, "Neighbour entry")
-unfoldable pub entry_read : List (List ℕ) → NwkNeighbor
-entry_read fs =
-    record {
-      extended_address = record { 0 = 0 };
-      network_address = record { 0 = hex_at 4 fs 1 };
-      device_type = device_type_at (hex_at 4 fs 1);
-      rx_on_when_idle = false;
-      end_device_configuration = 0;
-      relationship = NONE;
-      lqi = decimal_at 255 fs 8;
-      outgoing_cost = 0;
-      age = 0;
-      keepalive_received = false;
-      extended_pan_id = record { 0 = hex_at 16 fs 2 };
-      logical_channel = decimal_at 255 fs 3;
-      depth = decimal_at 255 fs 4;
-      permit_joining = flag_at fs 5;
-      potential_parent = decimal_at 255 fs 9;
-      router_capacity = flag_at fs 6;
-      end_device_capacity = flag_at fs 7;
-      update_id = decimal_at 255 fs 10;
-      pan_id = record { 0 = hex_at 4 fs 11 };
-    }
 
 -- the entries of lines
 abbrev pub entries_in : List (List ℕ) → List NwkNeighbor

@@ -8,10 +8,10 @@ ghost use Rattle.candidates.specs.Candidates.{list_of, items_of};
 ghost use Rattle.text.specs.Text.{parts, fields, decimal_text, hex_text};
 ghost use Rattle.text.specs.Writer.{with_text};
 ghost use Rattle.yard_list.specs.Private.{InTable};
-ghost use Rattle.yard_list.specs.YardList.{is_good, good_from, entry_read, entries_in, request_candidates, column, row_of, rows_from, list_text, bad_text, yard_text};
+ghost use Rattle.yard_list.specs.YardList.{is_good, good_from, entries_in, request_candidates, column, row_of, rows_from, list_text, bad_text, yard_text};
 
 use candidates::CandidateList;
-use nib::{ExtendedPanId, MAX_NEIGBOUR_TABLE, NeighborTable, NwkNeighbor, PanId, ShortAddress};
+use nib::{ExtendedPanId, MAX_NEIGBOUR_TABLE, NeighborTable, NwkNeighbor};
 use text::form::{self, Form};
 use text::writer::Writer;
 
@@ -73,41 +73,6 @@ fn good_lines(input: &[u8], ended: usize) -> usize
         .count()
 }
 
-// The neighbour entry of a line.
-#[tactic(auto, unfolding(crate::specs::YardList::entry_read))]
-fn read_entry(line: &[u8]) -> NwkNeighbor
-    ensures { result ≡ entry_read (fields line.now) }
-{
-    let address = form::short_at(line, 1);
-    let device_type = nib::device_type_at(ShortAddress(address));
-    let extended = form::hex_at(line, 16, 2);
-    let logical_channel = form::byte_at(line, 3);
-    let depth = form::byte_at(line, 4);
-    let permit_joining = form::flag_at(line, 5);
-    let router_capacity = form::flag_at(line, 6);
-    let end_device_capacity = form::flag_at(line, 7);
-    let lqi = form::byte_at(line, 8);
-    let potential_parent = form::byte_at(line, 9);
-    let update_id = form::byte_at(line, 10);
-    let pan = form::short_at(line, 11);
-    NwkNeighbor {
-        network_address: ShortAddress(address),
-        device_type,
-        relationship: nib::relationship::NONE,
-        lqi,
-        extended_pan_id: ExtendedPanId(extended),
-        logical_channel,
-        depth,
-        permit_joining,
-        potential_parent,
-        router_capacity,
-        end_device_capacity,
-        update_id,
-        pan_id: PanId(pan),
-        ..NwkNeighbor::default()
-    }
-}
-
 // The table of the entries of `count` lines after the first.
 fn read_table(input: &[u8], count: usize) -> NeighborTable
     requires { count ≤ MAX_NEIGBOUR_TABLE }
@@ -118,7 +83,7 @@ fn read_table(input: &[u8], count: usize) -> NeighborTable
         .skip(1)
         .take(count)
         .fold(NeighborTable::new(), |table, line| {
-            table.push(read_entry(line))
+            table.push(neighbor_line::read_entry(line))
         })
 }
 
