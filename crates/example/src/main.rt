@@ -1,6 +1,7 @@
 // The way to use the library: a plug looks for networks, joins, sends, loses its parent and rejoins. A scripted radio stands in for a real one.
 // An owner starts an operation, has the radio carry out what the node asks, and hands each outcome back, until the node says what came of it (`settle`).
-// His timer interrupt has a record of its own, which it lends to each tick (`interrupt`).
+// His timer interrupt has a record of its own, which it lends to each tick (`interrupt`). With the outcome of a scan, a poll or a receive goes the time by his
+// clock: the table keeps when each neighbour was last heard, for the owner to read (`tell_last_heard`). No decision reads it.
 #![tactic(auto)]
 
 use discovery::mlme::{
@@ -14,7 +15,10 @@ use management::{
     EndDeviceTimeoutResponse, NegotiationAnswer, NlmeJoinConfirm, NlmeJoinRequest, NlmeJoinStatus,
     NlmeNwkStatusIndication, RejoinNetwork, RejoinResponse, ScanRange, SendAnswer,
 };
-use nib::{CapabilityInformation, ExtendedPanId, IeeeAddress, Nib, PanId, ShortAddress};
+use nib::{
+    CapabilityInformation, ExtendedPanId, IeeeAddress, NeighborTable, Nib, PanId, ShortAddress,
+    neighbor_table,
+};
 use node::{Answer, State};
 use operation::{Note, RadioRequest, Step};
 use std::process::ExitCode;
@@ -98,11 +102,11 @@ fn polled(router: ShortAddress) -> ReceivedFrame {
     ReceivedFrame::RejoinResponseCommand(source, response)
 }
 
-// The radio carries out what the node asks, and the outcome is handed to the node.
-fn carry_out(state: State, request: RadioRequest, near_is_on: bool) -> Answer {
+// The radio carries out what the node asks, and the outcome is handed to the node, with the time at which it came where the node asks for that.
+fn carry_out(state: State, request: RadioRequest, clock: u32, near_is_on: bool) -> Answer {
     match request {
         // beside the answer stands the confirm of a discovery, with the networks that were heard; this plug knows which one it wants
-        RadioRequest::Scan(_) => state.scan_over(Ok(beacons(near_is_on))).answer,
+        RadioRequest::Scan(_) => state.scan_over(Ok(beacons(near_is_on)), clock).answer,
         RadioRequest::Associate(_) => state.association_over(Ok(AssociationResponse {
             status: 0,
             association_address: ShortAddress(0x5678),
@@ -111,8 +115,8 @@ fn carry_out(state: State, request: RadioRequest, near_is_on: bool) -> Answer {
         RadioRequest::Transmit(transmission) => {
             state.transmission_over(reaches(near_is_on, transmission.address))
         }
-        RadioRequest::Poll(_, router) => state.reception_over(Ok(Some(polled(router)))),
-        RadioRequest::Receive => state.reception_over(Ok(None)),
+        RadioRequest::Poll(_, router) => state.reception_over(Ok(Some(polled(router))), clock),
+        RadioRequest::Receive => state.reception_over(Ok(None), clock),
     }
 }
 
@@ -204,27 +208,31 @@ fn tell(edges: &Edges<HostRuntime>, answer: Answer) -> Result<(), Failed> {
     tell_step(edges, answer.step)
 }
 
-// What the owner keeps: the state, and the record of his timer interrupt.
+// What the owner keeps: the state, the record of his timer interrupt, and his clock, in seconds from when the plug was switched on.
 #[derive(Clone, Copy)]
 struct Plug {
     state: State,
     timer: ParentTimer,
+    clock: u32,
 }
 
 // What a call leaves. The record counts in place of the state's own, so it is loaded anew: a join zeroes only the state's own, and an old record would count on
 // and signal a failure that is none. `settle` does so once, at its end, since no interrupt comes within it here. Where one may, it is done after each outcome.
-fn after(answer: Answer) -> Plug {
+fn after(answer: Answer, clock: u32) -> Plug {
     Plug {
         state: answer.state,
         timer: answer.state.control.nlme.parent_timer,
+        clock,
     }
 }
 
 // Carries requests out until the operation has come to its end. A proved loop has to end: a rejoin, the longest operation, does so after at most 698 outcomes
-// (`rejoin_bound`), and the loop has more turns.
+// (`rejoin_bound`), and the loop has more turns. Each request takes the radio a second: so the clock is past 0, which is read as a time that is not known, when
+// it is first handed over.
 fn settle(
     edges: &Edges<HostRuntime>,
     mut answer: Answer,
+    mut clock: u32,
     near_is_on: bool,
 ) -> Result<Plug, Failed> {
     for _ in 0..u64::MAX {
@@ -232,19 +240,40 @@ fn settle(
         let Step::Ask(request) = answer.step else {
             break;
         };
-        answer = carry_out(answer.state, request, near_is_on);
+        clock = clock.saturating_add(1);
+        answer = carry_out(answer.state, request, clock, near_is_on);
     }
-    Ok(after(answer))
+    Ok(after(answer, clock))
 }
 
-// The timer interrupt: so many milliseconds have passed. It may come between any two calls, also while an outcome is awaited. One that comes while a call is
-// running is made after it.
-fn interrupt(edges: &Edges<HostRuntime>, mut plug: Plug, elapsed_ms: u32) -> Result<Plug, Failed> {
+// The timer interrupt: so many seconds have passed, which a tick counts in milliseconds. It may come between any two calls, also while an outcome is awaited.
+// One that comes while a call is running is made after it.
+fn interrupt(edges: &Edges<HostRuntime>, mut plug: Plug, elapsed: u32) -> Result<Plug, Failed> {
     edges.write(b"tick\n")?;
+    plug.clock = plug.clock.saturating_add(elapsed);
+    let elapsed_ms = elapsed.saturating_mul(1_000);
     let answer = lent_tick::tick_lent(&mut plug.timer, plug.state, elapsed_ms);
     tell(edges, answer)?;
     plug.state = answer.state;
     Ok(plug)
+}
+
+// When the parent was last heard, where that is known: a time of 0 is not.
+fn parent_heard(table: &NeighborTable) -> Option<u32> {
+    let parent = table.get(neighbor_table::parent_index(table))?;
+    Some(parent.last_heard).filter(|time| *time != 0)
+}
+
+// How long ago the parent was last heard: in a scan, or by a frame that a poll or a receive brought. A transmission that it acknowledges does not count.
+fn tell_last_heard(edges: &Edges<HostRuntime>, plug: Plug) -> Result<(), Failed> {
+    let Some(time) = parent_heard(&plug.state.table) else {
+        return edges.write(b"  it is not known when it was last heard\n");
+    };
+    let mut digits = [0u8; 10];
+    let count = text::write_decimal(&mut digits, 0, plug.clock.saturating_sub(time));
+    edges.write(b"  it was last heard ")?;
+    edges.write(lists::in_use(&digits, count))?;
+    edges.write(b" s ago\n")
 }
 
 fn request(kind: RejoinNetwork) -> NlmeJoinRequest {
@@ -279,6 +308,7 @@ fn send(edges: &Edges<HostRuntime>, plug: Plug, near_is_on: bool) -> Result<Plug
     settle(
         edges,
         plug.state.send_data(ShortAddress(0), secure),
+        plug.clock,
         near_is_on,
     )
 }
@@ -289,21 +319,27 @@ fn join(
     kind: RejoinNetwork,
     near_is_on: bool,
 ) -> Result<Plug, Failed> {
-    settle(edges, plug.state.join(request(kind)), near_is_on)
+    settle(
+        edges,
+        plug.state.join(request(kind)),
+        plug.clock,
+        near_is_on,
+    )
 }
 
 // Discovers, joins, negotiates a timeout and sends: from here on the parent's timer runs.
 fn begin(edges: &Edges<HostRuntime>, state: State) -> Result<Plug, Failed> {
     let near_is_on = true;
+    let clock = 0;
     edges.write(b"discovery\n")?;
-    let plug = settle(edges, state.start_discovery(CHANNELS), near_is_on)?;
+    let plug = settle(edges, state.start_discovery(CHANNELS), clock, near_is_on)?;
     edges.write(b"join\n")?;
     let plug = join(edges, plug, RejoinNetwork::Association, near_is_on)?;
     edges.write(b"negotiation\n")?;
     let negotiated = plug.state.negotiate_end_device_timeout();
-    let plug = settle(edges, negotiated, near_is_on)?;
+    let plug = settle(edges, negotiated, plug.clock, near_is_on)?;
     let plug = send(edges, plug, near_is_on)?;
-    interrupt(edges, plug, HOUR_MS)
+    interrupt(edges, plug, HOUR)
 }
 
 // Goes through the day. With the near router off the third transmission that fails is one too many: the parent is lost, and the plug rejoins by the far router.
@@ -317,16 +353,17 @@ fn live(edges: &Edges<HostRuntime>, state: State) -> Result<(), Failed> {
     let plug = send(edges, plug, near_is_on)?;
     edges.write(b"status\n")?;
     let taken = plug.state.take_nwk_status_indication();
-    let plug = settle(edges, taken, near_is_on)?;
+    let plug = settle(edges, taken, plug.clock, near_is_on)?;
+    tell_last_heard(edges, plug)?;
     edges.write(b"rejoin\n")?;
     let plug = join(edges, plug, RejoinNetwork::NwkRejoin, near_is_on)?;
     let plug = send(edges, plug, near_is_on)?;
-    interrupt(edges, plug, 6 * HOUR_MS)?;
+    interrupt(edges, plug, 6 * HOUR)?;
     Ok(())
 }
 
-// An hour in milliseconds. The timeout that is asked for is 256 minutes: one hour does not use it up, six would.
-const HOUR_MS: u32 = 3_600_000;
+// An hour in seconds. The timeout that is asked for is 256 minutes: one hour does not use it up, six would.
+const HOUR: u32 = 3_600;
 
 // What is printed if there is an argument.
 const USAGE: &[u8] = b"Usage: example\n\
