@@ -29,7 +29,7 @@ const ENTRY_FORMS: [Form<1>; 13] = [
     Form::Decimal(4_294_967_295), // last-heard time
 ];
 
-// How many of these fields an `n` line had before it gained the last-heard time.
+// How many of these fields an `n` line had before it gained the last-heard time, and so the place of that field, from 0.
 const OLD_FIELDS: usize = 12;
 
 // The bytes of the field and the line feed that a line moved forth ends with.
@@ -114,7 +114,6 @@ fn is_line_of(line: &[u8], forms: &[Form<1>]) -> bool
 }
 
 // Writes two texts, one behind the other, at the start of a buffer that has room for both, and returns their length.
-#[tactic(auto, using(crate::proofs::Buffers::both_written))]
 fn write_both(out: &mut [u8], front: &[u8], end: &[u8]) -> usize
     requires { length front.now + length end.now ≤ length out.old }
     ensures { (result ≡ length (front.now ++ end.now)) × (out.new ≡ over out.old (front.now ++ end.now)) }
@@ -139,7 +138,7 @@ fn forth_refusal(line: &[u8], room: usize) -> Option<MoveRefusal>
 
 // Moves an `n` line of twelve fields forth, with its line feed, to thirteen: writes it with a last-heard time of 0 at the start of a lent buffer, and returns
 // the length of what it wrote. The other bytes stay. One line at a time.
-#[tactic(auto, using(crate::proofs::Buffers::forth_refused, crate::proofs::Buffers::forth_fits, crate::proofs::Buffers::forth_moved))]
+#[tactic(auto, using(crate::proofs::Buffers::forth_fits))]
 pub fn move_forth(line: &[u8], out: &mut [u8]) -> Result<usize, MoveRefusal>
     ensures { (result ≡ forth_answer line.now (length out.old)) × (out.new ≡ forth_left line.now out.old) }
 {
@@ -182,7 +181,7 @@ fn back_refusal(line: &[u8], room: usize) -> Option<MoveRefusal>
 
 // Moves an `n` line of thirteen fields back, with its line feed, to twelve: writes it without its last-heard time, which has to be 0, at the start of a lent
 // buffer, and returns the length of what it wrote. The other bytes stay. One line at a time.
-#[tactic(auto, using(crate::proofs::Buffers::back_refused, crate::proofs::Buffers::back_fits, crate::proofs::Buffers::back_moved))]
+#[tactic(auto, using(crate::proofs::Buffers::back_fits))]
 pub fn move_back(line: &[u8], out: &mut [u8]) -> Result<usize, MoveRefusal>
     ensures { (result ≡ back_answer line.now (length out.old)) × (out.new ≡ back_left line.now out.old) }
 {

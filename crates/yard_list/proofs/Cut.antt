@@ -1,4 +1,4 @@
--- The first 1,024 bytes of an input are enough: its yard list is that of the whole. A good line has at most 55 bytes with its line feed, and there are at
+-- The first 2,048 bytes of an input are enough: its yard list is that of the whole. A good line has at most 66 bytes with its line feed, and there are at
 -- most 17. Assumes nothing.
 use Prim.Native.Nat.{ℕ, zero, suc, ◌+◌, ◌-◌, ◌*◌, ◌<◌, ◌≤◌, min}
 use mathlib.Core.Path.{◌≡◌, refl, sym, ap, ◌∙◌}
@@ -18,19 +18,20 @@ use Rattle.text.proofs.Parts.{parts-some, parts_first, parts-only}
 use Rattle.text.specs.Form.{have_forms}
 use Rattle.text.proofs.Sizes.{total, total-parts}
 use Rattle.text.proofs.Forms.{line-size}
-use Rattle.yard_list.specs.YardList.{request_forms, entry_forms, is_good, good_from, list_text, bad_text, ended_lines, unended, yard_text}
+use Rattle.neighbor_line.specs.NeighborLine.{entry_forms}
+use Rattle.yard_list.specs.YardList.{request_forms, is_good, good_from, list_text, bad_text, ended_lines, unended, yard_text}
 use Rattle.yard_list.proofs.Lines.{good_few}
 
-good-size : (k : ℕ) (l : List ℕ) → is_good k l ≡ true → length l ≤ 54
+good-size : (k : ℕ) (l : List ℕ) → is_good k l ≡ true → length l ≤ 65
 unfolding is_good decimal_text
 good-size k l h = go (eqb k 0) (leb k 16) h
   where
-    go : (b d : Bool) → cond b (have_forms request_forms (fields l)) (d && have_forms entry_forms (fields l)) ≡ true → length l ≤ 54
+    go : (b d : Bool) → cond b (have_forms request_forms (fields l)) (d && have_forms entry_forms (fields l)) ≡ true → length l ≤ 65
     go true d t =
         let s : total (fields l) ≤ 33 = line-size request_forms (fields l) refl t in
         omega (arith, total-parts 9 l)
     go false true t =
-        let s : total (fields l) ≤ 55 = line-size entry_forms (fields l) refl t in
+        let s : total (fields l) ≤ 66 = line-size entry_forms (fields l) refl t in
         omega (arith, total-parts 9 l)
     go false false t = absurd (false≢true t)
 
@@ -74,12 +75,12 @@ drop-take n m t h l =
     ap (drop n) (ap (λ (k : ℕ). take k t) e ∙ take-add n (m - n) t) ∙ drop_at (take n t) (take (m - n) (drop n t)) n (length-take-le n t (omega arith))
 
 -- as many lines are good in a front that is long enough
-same_good : (d k : ℕ) (t : List ℕ) (m : ℕ) → k + d ≡ 17 → 55 * d < m → m ≤ length t → good_from k (ended_lines (take m t)) ≡ good_from k (ended_lines t)
+same_good : (d k : ℕ) (t : List ℕ) (m : ℕ) → k + d ≡ 17 → 66 * d < m → m ≤ length t → good_from k (ended_lines (take m t)) ≡ good_from k (ended_lines t)
 same_good zero k t m e l h = omega (arith, good_few k (ended_lines (take m t)) (omega arith), good_few k (ended_lines t) (omega arith))
 same_good (suc d) k t m e l h = go (λ s n a b. same_good d (suc k) s n (omega arith) a b) (ltb (first t) (length t)) refl (ltb (first t) m) refl
   where
     Next : Type 0
-    Next = (s : List ℕ) (n : ℕ) → 55 * d < n → n ≤ length s → good_from (suc k) (ended_lines (take n s)) ≡ good_from (suc k) (ended_lines s)
+    Next = (s : List ℕ) (n : ℕ) → 66 * d < n → n ≤ length s → good_from (suc k) (ended_lines (take n s)) ≡ good_from (suc k) (ended_lines s)
 
     long : length (take m t) ≡ m
     long = length-take-le m t h
@@ -93,7 +94,7 @@ same_good (suc d) k t m e l h = go (λ s n a b. same_good d (suc k) s n (omega a
 
     step : Next → (w : first t < length t) (b : Bool) → is_good k (take (first t) t) ≡ b → first t < m → cond b (suc (good_from (suc k) (ended_lines (take (m - suc (first t)) (rest t w))))) 0 ≡ cond b (suc (good_from (suc k) (ended_lines (rest t w)))) 0
     step next w true q f =
-        let s : first t ≤ 54 = omega (arith, good-size k (take (first t) t) q, length-take-le (first t) t (omega arith)) in
+        let s : first t ≤ 65 = omega (arith, good-size k (take (first t) t) q, length-take-le (first t) t (omega arith)) in
         ap suc (next (rest t w) (m - suc (first t)) (omega arith) (omega (arith, length-drop (suc (first t)) t)))
     step next w false q f = refl
 
@@ -119,32 +120,32 @@ same_good (suc d) k t m e l h = go (λ s n a b. same_good d (suc k) s n (omega a
 
 -- a text all of whose lines are good is short; `shorter` says it of what follows the first line
 right-step : (d k : ℕ) (t : List ℕ) → k + d ≡ 17 → good_from k (ended_lines t) ≡ length (parts 10 t) - 1 → length (unended t) ≡ 0
-    → ((j : ℕ) → d ≡ suc j → (s : List ℕ) → good_from (suc k) (ended_lines s) ≡ length (parts 10 s) - 1 → length (unended s) ≡ 0 → length s ≤ 55 * j)
-    → length t ≤ 55 * d
+    → ((j : ℕ) → d ≡ suc j → (s : List ℕ) → good_from (suc k) (ended_lines s) ≡ length (parts 10 s) - 1 → length (unended s) ≡ 0 → length s ≤ 66 * j)
+    → length t ≤ 66 * d
 right-step d k t e g u shorter = go (ltb (first t) (length t)) refl
   where
     only : first t ≡ length t → length t ≡ 0
     only n = ap length (sym (unended-all t n)) ∙ u
 
-    more : (w : first t < length t) (b : Bool) → is_good k (take (first t) t) ≡ b → cond b (suc (good_from (suc k) (ended_lines (rest t w)))) 0 ≡ suc (length (parts 10 (rest t w)) - 1) → length t ≤ 55 * d
+    more : (w : first t < length t) (b : Bool) → is_good k (take (first t) t) ≡ b → cond b (suc (good_from (suc k) (ended_lines (rest t w)))) 0 ≡ suc (length (parts 10 (rest t w)) - 1) → length t ≤ 66 * d
     more w true q c =
-        let s : first t ≤ 54 = omega (arith, good-size k (take (first t) t) q, length-take-le (first t) t (omega arith)) in
+        let s : first t ≤ 65 = omega (arith, good-size k (take (first t) t) q, length-take-le (first t) t (omega arith)) in
         let f : 1 ≤ d = omega (arith, good_few k (ended_lines t) (omega arith), parts_more t w) in
         let r = shorter (d - 1) (omega arith) (rest t w) (omega arith) (ap length (sym (unended-more t w)) ∙ u) in
         omega (arith, length-drop (suc (first t)) t)
     more w false q c = let x : ⊥ = omega arith in absurd x
 
-    go : (b : Bool) → ltb (first t) (length t) ≡ b → length t ≤ 55 * d
+    go : (b : Bool) → ltb (first t) (length t) ≡ b → length t ≤ 66 * d
     go true p =
         let w = ltb-true (first t) (length t) p in
         more w (is_good k (take (first t) t)) refl (ap (good_from k) (sym (ended-more t w)) ∙ g ∙ parts_more t w)
     go false p = let f = ltb-false (first t) (length t) p in omega (arith, only (omega (arith, first-le (λ b. eqb b 10) t)))
 
-right-short : (d k : ℕ) (t : List ℕ) → k + d ≡ 17 → good_from k (ended_lines t) ≡ length (parts 10 t) - 1 → length (unended t) ≡ 0 → length t ≤ 55 * d
+right-short : (d k : ℕ) (t : List ℕ) → k + d ≡ 17 → good_from k (ended_lines t) ≡ length (parts 10 t) - 1 → length (unended t) ≡ 0 → length t ≤ 66 * d
 right-short zero k t e g u = right-step zero k t e g u (λ j x s a b. let y : ⊥ = omega arith in absurd y)
 right-short (suc d) k t e g u = right-step (suc d) k t e g u (λ j x s a b. omega (arith, right-short d (suc k) s (omega arith) a b))
 
-long-bad : (t : List ℕ) → 935 < length t → yard_text t ≡ bad_text (good_from 0 (ended_lines t) + 1)
+long-bad : (t : List ℕ) → 1122 < length t → yard_text t ≡ bad_text (good_from 0 (ended_lines t) + 1)
 unfolding yard_text
 long-bad t h = go (ltb 0 k && (eqb k n && eqb (length (unended t)) 0)) refl
   where
@@ -162,14 +163,14 @@ long-bad t h = go (ltb 0 k && (eqb k n && eqb (length (unended t)) 0)) refl
         absurd x
     go false e = refl
 
-pub cut-is-enough : (t : List ℕ) → yard_text (take 1024 t) ≡ yard_text t
-cut-is-enough t = go (leb (length t) 1024) refl
+pub cut-is-enough : (t : List ℕ) → yard_text (take 2048 t) ≡ yard_text t
+cut-is-enough t = go (leb (length t) 2048) refl
   where
-    go : (b : Bool) → leb (length t) 1024 ≡ b → yard_text (take 1024 t) ≡ yard_text t
-    go true e = ap yard_text (take_all 1024 t (leb-true (length t) 1024 e))
+    go : (b : Bool) → leb (length t) 2048 ≡ b → yard_text (take 2048 t) ≡ yard_text t
+    go true e = ap yard_text (take_all 2048 t (leb-true (length t) 2048 e))
     go false e =
-        let h = leb-false (length t) 1024 e in
-        let l : length (take 1024 t) ≡ 1024 = length-take-le 1024 t (omega arith) in
-        long-bad (take 1024 t) (omega arith)
-        ∙ ap (λ (n : ℕ). bad_text (n + 1)) (same_good 17 0 t 1024 refl (omega arith) (omega arith))
+        let h = leb-false (length t) 2048 e in
+        let l : length (take 2048 t) ≡ 2048 = length-take-le 2048 t (omega arith) in
+        long-bad (take 2048 t) (omega arith)
+        ∙ ap (λ (n : ℕ). bad_text (n + 1)) (same_good 17 0 t 2048 refl (omega arith) (omega arith))
         ∙ sym (long-bad t (omega arith))

@@ -14,11 +14,11 @@ use Rattle.nib.specs.Neighbors.{table_of, pushed}
 use Rattle.nib.specs.declared.NwkNeighbor.{NwkNeighbor}
 use Rattle.nib.specs.declared.NeighborTable.{NeighborTable}
 use Rattle.nib.proofs.Tables.{push-of}
-use Rattle.neighbor_line.specs.NeighborLine.{entry_read}
+use Rattle.neighbor_line.specs.NeighborLine.{entry_forms, entry_read}
 use Rattle.text.specs.Text.{parts, fields}
 use Rattle.text.proofs.Parts.{parts-some}
 use Rattle.text.specs.Form.{have_forms}
-use Rattle.yard_list.specs.YardList.{request_forms, entry_forms, is_good, good_from, entries_in}
+use Rattle.yard_list.specs.YardList.{request_forms, is_good, good_from, entries_in}
 
 -- how many lines are good, in std's words
 pub good-prefix : (k : ℕ) (ls : List (List ℕ)) → length (take (prefix_len (λ p. is_good p.0 p.1) (enumerate_from k ls)) (enumerate_from k ls)) ≡ good_from k ls

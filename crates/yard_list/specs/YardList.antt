@@ -6,19 +6,14 @@ use Rattle.candidates.specs.Candidates.{candidates}
 use Rattle.text.specs.Text.{bytes, parts, fields, decimal_text, hex_text}
 use Rattle.text.specs.declared.form.Form.{Form}
 use Rattle.text.specs.declared.form.Form.TheVariants.{Word, Hex, Decimal}
-use Rattle.neighbor_line.specs.NeighborLine.{entry_read}
+use Rattle.neighbor_line.specs.NeighborLine.{entry_forms, entry_read}
 use Rattle.text.specs.Form.{have_forms, hex_at, decimal_at, flag_at}
 
 -- line 1: `request`, extended PAN id, role, permit wanted, stack profile
 abbrev pub request_forms : List (Form 7)
 request_forms = Word (bytes "request") ∷ Hex 16 ∷ Decimal 1 ∷ Decimal 1 ∷ Decimal 255 ∷ []
 
--- the lines after it: `n`, address, extended PAN id, channel, depth, permit, router capacity, end device capacity, LQI, potential parent, update id, PAN id
-abbrev pub entry_forms : List (Form 1)
-entry_forms =
-    Word (bytes "n") ∷ Hex 4 ∷ Hex 16 ∷ Decimal 255 ∷ Decimal 255 ∷ Decimal 1 ∷ Decimal 1 ∷ Decimal 1 ∷ Decimal 255 ∷ Decimal 255 ∷ Decimal 255 ∷ Hex 4 ∷ []
-
--- a line that is neither bad nor surplus; k lines stand before it. At most 16 follow the first
+-- a line that is neither bad nor surplus; k lines stand before it. At most 16 follow the first, each an `n` line
 unfoldable pub is_good : ℕ → List ℕ → Bool
 is_good k line = cond (eqb k 0) (have_forms request_forms (fields line)) (leb k 16 && have_forms entry_forms (fields line))
 

@@ -30,22 +30,6 @@ const REQUEST: [Form<7>; 5] = [
     Form::Decimal(255), // stack profile
 ];
 
-// The forms of the fields of a later line.
-const ENTRY: [Form<1>; 12] = [
-    Form::Word(*b"n"),
-    Form::Hex(4), // address
-    Form::Hex(16), // extended PAN id
-    Form::Decimal(255), // channel
-    Form::Decimal(255), // depth
-    Form::Decimal(1), // permit
-    Form::Decimal(1), // router capacity
-    Form::Decimal(1), // end device capacity
-    Form::Decimal(255), // LQI
-    Form::Decimal(255), // potential parent
-    Form::Decimal(255), // update id
-    Form::Hex(4), // PAN id
-];
-
 // Whether a line with k lines before it is good.
 #[tactic(auto, unfolding(crate::specs::YardList::is_good))]
 fn is_good(line: &[u8], k: usize) -> bool
@@ -57,7 +41,7 @@ fn is_good(line: &[u8], k: usize) -> bool
     if MAX_ENTRIES < k {
         return false;
     }
-    form::is_line(line, &ENTRY)
+    neighbor_line::is_entry(line)
 }
 
 // How many of the first `ended` lines are good, up to the first that is not. `input` and `ended` go together here and in two more, and no struct: `ended` is

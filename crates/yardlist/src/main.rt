@@ -26,12 +26,12 @@ fn print_list(edges: &Edges<HostRuntime>, input: &[u8]) -> Result<(), Failed> {
     edges.write(&out[..length])
 }
 
-// The first 1,024 bytes are enough: `cut-is-enough` of yard_list says that the list of a longer input is theirs.
+// The first 2,048 bytes are enough: `cut-is-enough` of yard_list says that the list of a longer input is theirs. A good input has at most 1,089.
 fn run(edges: &Edges<HostRuntime>) -> Result<(), Failed> {
     if edges.print_usage(edges.word_count(), USAGE)? {
         return Ok(());
     }
-    let mut input = [0u8; 1024];
+    let mut input = [0u8; 2048];
     let n = edges.read_full(&mut input)?;
     print_list(edges, &input[..n])
 }
