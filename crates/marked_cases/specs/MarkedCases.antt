@@ -2,7 +2,7 @@
 use Rattle.std.specs.Prelude.{Option, Some, None, ℕ, ◌≡◌, Bool, true, false, cond, List, [], ◌∷◌, map}
 use Rattle.lists.specs.Lists.{All}
 use Rattle.nib.specs.LinkCost.{link_cost}
-use Rattle.nib.specs.Neighbors.{NONE}
+use Rattle.nib.specs.Neighbors.{NONE, blank}
 use Rattle.nib.specs.declared.Nib.{Nib}
 use Rattle.nib.specs.declared.NwkNeighbor.{NwkNeighbor}
 use Rattle.nib.specs.declared.DeviceType.TheVariants.{Router}
@@ -16,17 +16,11 @@ use Rattle.nlme.specs.Received.{accepts_leave}
 -- an entry by the fields that the choice reads: extended PAN id, depth, permit, router and end device capacity, LQI, update id; potential parent is 1
 abbrev pub entry : ℕ → ℕ → Bool → Bool → Bool → ℕ → ℕ → NwkNeighbor
 entry n depth permit router device lqi id =
-    record {
-      extended_address = record { 0 = 0 };
-      network_address = record { 0 = 0 };
+    record blank {
       device_type = Router;
       rx_on_when_idle = true;
-      end_device_configuration = 0;
       relationship = NONE;
       lqi = lqi;
-      outgoing_cost = 0;
-      age = 0;
-      keepalive_received = false;
       extended_pan_id = record { 0 = n };
       logical_channel = 11;
       depth = depth;

@@ -1,6 +1,7 @@
 -- What is claimed of the neighbour page (02, L1), whatever the table holds: "The page is 17 rows of 47 characters, each with a line feed: 816 bytes."
-use Rattle.std.specs.Prelude.{ℕ, suc, ◌+◌, ◌*◌, ◌<◌, ◌≤◌, ◌≡◌, true, false, List, [], ◌∷◌, length, take, drop, get_or}
+use Rattle.std.specs.Prelude.{ℕ, suc, ◌+◌, ◌*◌, ◌<◌, ◌≤◌, ◌≡◌, true, List, [], ◌∷◌, length, take, drop, get_or}
 use Rattle.lists.specs.Lists.{All}
+use Rattle.nib.specs.Neighbors.{blank}
 use Rattle.nib.specs.declared.NwkNeighbor.{NwkNeighbor}
 use Rattle.nib.specs.declared.DeviceType.{DeviceType}
 use Rattle.text.specs.Text.{bytes, spaces}
@@ -9,17 +10,11 @@ use Rattle.neighbor_page.specs.Page.{page, written}
 -- an entry with an address, extended PAN id, PAN id, channel, depth, LQI and relationship; the page shows nothing else of it
 abbrev pub entry : ℕ → ℕ → ℕ → ℕ → ℕ → ℕ → ℕ → NwkNeighbor
 entry address network pan channel depth lqi relationship =
-    record {
-      extended_address = record { 0 = 0 };
+    record blank {
       network_address = record { 0 = address };
       device_type = DeviceType.Router;
-      rx_on_when_idle = false;
-      end_device_configuration = 0;
       relationship = relationship;
       lqi = lqi;
-      outgoing_cost = 0;
-      age = 0;
-      keepalive_received = false;
       extended_pan_id = record { 0 = network };
       logical_channel = channel;
       depth = depth;
@@ -27,7 +22,6 @@ entry address network pan channel depth lqi relationship =
       potential_parent = 1;
       router_capacity = true;
       end_device_capacity = true;
-      update_id = 0;
       pan_id = record { 0 = pan };
     }
 

@@ -6,7 +6,7 @@ use Rattle.nib.specs.declared.ShortAddress.{ShortAddress}
 use Rattle.nib.specs.NeighborTable.{on_entries, retained}
 use Rattle.discovery.specs.Mlme.{descriptors_of}
 use Rattle.discovery.specs.declared.mlme.PanDescriptor.{PanDescriptor}
-use Rattle.discovery.specs.Discovery.{neighbors_of, short_addressed, network_descriptor_of, confirm_of}
+use Rattle.discovery.specs.Discovery.{neighbors_heard, short_addressed, network_descriptor_of, confirm_of}
 use Rattle.discovery.specs.declared.NlmeNetworkDiscoveryConfirm.{NlmeNetworkDiscoveryConfirm}
 use Rattle.candidates.specs.Candidates.{candidates, list_of}
 use Rattle.candidates.specs.Tries.{chosen_from}
@@ -14,10 +14,11 @@ use Rattle.management.specs.declared.RejoinNetwork.{RejoinNetwork}
 use Rattle.management.specs.declared.ScanRange.{ScanRange}
 use Rattle.management.specs.declared.NlmeJoinRequest.{NlmeJoinRequest}
 use Rattle.management.specs.declared.PollAnswer.{PollAnswer}
+use Rattle.management.specs.Frame.{sender_of}
 use Rattle.management.specs.declared.frame.ReceivedFrame.{ReceivedFrame}
 use Rattle.nlme.specs.Nlme.{nlme_ticked}
 use Rattle.nlme.specs.declared.Nlme.{Nlme}
-use Rattle.nlme.specs.Received.{taught, handled, leave_announced}
+use Rattle.nlme.specs.Received.{heard_from, handled, leave_announced}
 use Rattle.nlme.specs.declared.received.Then.{Then}
 use Rattle.nlme.specs.declared.received.Handled.{Handled}
 use Rattle.operation.specs.Operation.{with_nlme, scan_for, association_for, transmission_for, reception_for, is_discovered, telling, asking, announcing_leave, ending}
@@ -79,9 +80,9 @@ unfoldable pub scan_failed : ScanFor → State → Answer
 scan_failed ScanFor.Discovery s = deciding s (ending Step.DiscoveryFailed s.control)
 scan_failed ScanFor.Rejoin s = deciding s (failing NlmeJoinStatus.MacError s.control)
 
--- the table made from the scan: "One entry for each short-addressed descriptor, in scan order"
-unfoldable pub with_scan : List PanDescriptor → State → State
-with_scan ds s = with_table (table_of (neighbors_of ds)) s
+-- the table made from the scan: "One entry for each short-addressed descriptor, in scan order", each last heard at the time t of the scan's outcome (02, L4)
+unfoldable pub with_scan : ℕ → List PanDescriptor → State → State
+with_scan t ds s = with_table (table_of (neighbors_heard t ds)) s
 
 -- a rejoin goes on to its candidates: "no candidate: NotPermitted"
 abbrev pub rejoin_among : State → Answer
@@ -93,11 +94,11 @@ scan_heard ScanFor.Rejoin s =
     rejoin_among (with_chosen false s.control.operation.extended_pan_id.0 s.control.nlme.nib.capability_information s)
 
 -- "for a scan, 3 above 27 descriptors, then 4 above 16 short-addressed ones" (01, "When a call is turned down")
-unfoldable pub scan_decided : Result PanDescriptorList MacError → ScanFor → State → Answer
-scan_decided (Err e) u s = scan_failed u s
-scan_decided (Ok l) u s =
+unfoldable pub scan_decided : Result PanDescriptorList MacError → ℕ → ScanFor → State → Answer
+scan_decided (Err e) t u s = scan_failed u s
+scan_decided (Ok l) t u s =
     cond (ltb 27 l.count) (refuse TooManyDescriptors s)
-    (cond (ltb 16 (short_addressed (descriptors_of l))) (refuse TooManyShortAddressed s) (scan_heard u (with_scan (descriptors_of l) s)))
+    (cond (ltb 16 (short_addressed (descriptors_of l))) (refuse TooManyShortAddressed s) (scan_heard u (with_scan t (descriptors_of l) s)))
 
 -- The outcome of an association (01, "Join request and confirm")
 
@@ -132,16 +133,17 @@ after_frame u (Then.Announce a) s = deciding s (announcing_leave u a s.control)
 abbrev pub handled_on : ReceptionFor → Handled → State → Answer
 handled_on u h s = after_frame u h.then (table_changed h.removed (with_node h.nlme s))
 
-abbrev pub taught_on : ReceivedFrame → State → State
-taught_on f s = with_table (on_entries (taught f) s.table) s
+-- what a frame does to its sender's entry, before it is dealt with: "first teach it" (01), and it "renews" it (02, L4) at the time t of the outcome
+abbrev pub heard_on : ReceivedFrame → ℕ → State → State
+heard_on f t s = with_table (on_entries (heard_from (sender_of f) t) s.table) s
 
 abbrev pub processed : ReceptionFor → ReceivedFrame → State → Answer
 processed u f s = handled_on u (handled (parent s) (broadcast s) f s.control.nlme) s
 
-unfoldable pub reception_decided : Result (Option ReceivedFrame) MacError → ReceptionFor → State → Answer
-reception_decided (Ok None) u s = go_on false u (no_data u) s
-reception_decided (Err e) u s = go_on false u PollAnswer.PollMacError s
-reception_decided (Ok (Some f)) u s = processed u f (taught_on f s)
+unfoldable pub reception_decided : Result (Option ReceivedFrame) MacError → ℕ → ReceptionFor → State → Answer
+reception_decided (Ok None) t u s = go_on false u (no_data u) s
+reception_decided (Err e) t u s = go_on false u PollAnswer.PollMacError s
+reception_decided (Ok (Some f)) t u s = processed u f (heard_on f t s)
 
 -- The outcome of a transmission (01, "Received frame", "Supervision record")
 
@@ -159,7 +161,8 @@ transmission_decided ok (TransmissionFor.Leave l) s = go_on (not l.rejoin) l.pur
 
 -- Every call
 
--- starts of any kind, outcomes, ticks, and takings of an indication
+-- starts of any kind, outcomes, ticks, and takings of an indication. The outcome of a scan, and that of a poll or a receive, come with the caller's clock, in
+-- seconds (02, L4)
 pub data Call : Type 0 where
   discovery : ScanRange → Call
   join : NlmeJoinRequest → Call
@@ -167,10 +170,10 @@ pub data Call : Type 0 where
   poll : Call
   receive : Call
   timeout : TimeoutFor → Call
-  scan : Result PanDescriptorList MacError → Call
+  scan : Result PanDescriptorList MacError → ℕ → Call
   association : Result AssociationResponse MacError → Call
   transmission : Bool → Call
-  reception : Result (Option ReceivedFrame) MacError → Call
+  reception : Result (Option ReceivedFrame) MacError → ℕ → Call
   elapsed : ℕ → Call
   take_leave : Call
   take_status : Call
@@ -183,10 +186,10 @@ made s (send destination secure) = start (deciding s (send_started destination s
 made s poll = start (deciding s (poll_started (parent s) s.control)) s
 made s receive = start (deciding s (receive_started s.control)) s
 made s (timeout u) = start (deciding s (timeout_started u (parent s) s.control)) s
-made s (scan o) = outcome (scan_for s.control.operation.phase) (scan_decided o) s
+made s (scan o t) = outcome (scan_for s.control.operation.phase) (scan_decided o t) s
 made s (association o) = outcome (association_for s.control.operation.phase) (association_decided o) s
 made s (transmission ok) = outcome (transmission_for s.control.operation.phase) (transmission_decided ok) s
-made s (reception o) = outcome (reception_for s.control.operation.phase) (reception_decided o) s
+made s (reception o t) = outcome (reception_for s.control.operation.phase) (reception_decided o t) s
 made s (elapsed ms) = deciding s (tick_told (nlme_ticked (parent s) ms s.control.nlme) s.control)
 made s take_leave = deciding s (leave_taken s.control)
 made s take_status = deciding s (status_taken s.control)
@@ -200,8 +203,8 @@ abbrev pub confirm_by : Step → Result PanDescriptorList MacError → Option Nl
 confirm_by st (Err e) = None
 confirm_by st (Ok l) = cond (is_discovered st) (Some (confirm_of (map network_descriptor_of (descriptors_of l)))) None
 
-unfoldable pub scanned : Result PanDescriptorList MacError → State → ScanAnswer
-scanned o s = record { answer = answer s (scan o); confirm = confirm_by (answer s (scan o)).step o }
+unfoldable pub scanned : Result PanDescriptorList MacError → ℕ → State → ScanAnswer
+scanned o t s = record { answer = answer s (scan o t); confirm = confirm_by (answer s (scan o t)).step o }
 
 -- the choice of candidates (01, "Candidate list"): "5 only"
 unfoldable pub choose : ℕ → Bool → Bool → State → Result CandidateList Refusal

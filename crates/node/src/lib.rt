@@ -24,6 +24,9 @@
 // No call gives an operation up: a radio that does not answer is told of as a failure. A data frame is not kept. The owner has it, and hands it up where the
 // answer is `Polled(PollData)`; in a rejoin, a negotiation or a keepalive the source drops it, and no answer speaks of it.
 //
+// `scan_over` and `reception_over` take the caller's clock too, in seconds: an entry says when its neighbour was last heard. The time is that at which the
+// outcome is handed back, and not that of the start. 0 is read as not known. The clock may go back: no decision reads it.
+//
 // The indications of a leave and of a lost parent stand in slots, one each, and a newer one takes the place of an older. So an owner takes both after each
 // outcome of a transmission, a poll or a receive, at the end of a keepalive, and after each tick that has expired.
 //
@@ -44,7 +47,7 @@ ghost use Rattle.node.specs.Beginning.{new_state};
 ghost use Rattle.node.specs.Looks.{parent, tried, next, deciding};
 ghost use Rattle.node.specs.Refusals.{refuse, past_in, bad_by, bad};
 ghost use Rattle.node.specs.Private.{refusal, start_refusal};
-ghost use Rattle.node.specs.Calls.{join_by, associate, with_chosen, rejoin_among, scan_failed, scan_heard, scan_decided, confirm_by, scanned, continuing, go_on, table_changed, after_frame, handled_on, taught_on, processed, after_leave, reception_decided, transmission_decided, answer, choose, refresh, page_answer, page_left, discovery, join, send, poll, receive, timeout, scan, association, transmission, reception, elapsed, take_leave, take_status};
+ghost use Rattle.node.specs.Calls.{join_by, associate, with_chosen, rejoin_among, scan_failed, scan_heard, scan_decided, confirm_by, scanned, continuing, go_on, table_changed, after_frame, handled_on, heard_on, processed, after_leave, reception_decided, transmission_decided, answer, choose, refresh, page_answer, page_left, discovery, join, send, poll, receive, timeout, scan, association, transmission, reception, elapsed, take_leave, take_status};
 
 use candidates::tries::Candidates;
 use candidates::{CandidateList, tries};
@@ -465,8 +468,13 @@ impl State {
 
     // A scan that has failed, or its list; one that is too long is turned down.
     #[tactic(auto, unfolding(crate::specs::Calls::scan_decided))]
-    fn decide_scan(&self, purpose: ScanFor, outcome: Result<PanDescriptorList, MacError>) -> Answer
-        ensures { result ≡ scan_decided outcome purpose self.now }
+    fn decide_scan(
+        &self,
+        purpose: ScanFor,
+        outcome: Result<PanDescriptorList, MacError>,
+        clock: u32,
+    ) -> Answer
+        ensures { result ≡ scan_decided outcome clock purpose self.now }
     {
         let Ok(list) = outcome else {
             return self.scan_failed(purpose);
@@ -478,13 +486,13 @@ impl State {
             return self.refuse(Refusal::TooManyShortAddressed);
         }
         let mut state = *self;
-        state.table = discovery::neighbor_table_from(list);
+        state.table = discovery::neighbor_table_from(list, clock);
         state.scan_heard(purpose)
     }
 
     #[tactic(auto, unfolding(crate::specs::Calls::answer, crate::specs::Refusals::outcome))]
-    fn scan_answer(&self, outcome: Result<PanDescriptorList, MacError>) -> Answer
-        ensures { result ≡ answer self.now (scan outcome) }
+    fn scan_answer(&self, outcome: Result<PanDescriptorList, MacError>, clock: u32) -> Answer
+        ensures { result ≡ answer self.now (scan outcome clock) }
     {
         // The other three outcomes have this shape too: each takes what is awaited out of its own variant of `Phase`, and a pattern can't be handed to a
         // function.
@@ -492,17 +500,17 @@ impl State {
             let Phase::Scan(purpose) = self.control.operation.phase else {
                 return self.refuse(Refusal::NotAwaited);
             };
-            self.decide_scan(purpose, outcome)
+            self.decide_scan(purpose, outcome, clock)
         })
     }
 
     // The outcome of a scan: a discovery is over, a rejoin goes on. Above 27 descriptors it is turned down by 3, above 16 short-addressed ones by 4; then the
-    // radio's outcome is still awaited.
+    // radio's outcome is still awaited. Each neighbour that was heard was last heard at `clock`.
     #[tactic(auto, unfolding(crate::specs::Calls::scanned))]
-    pub fn scan_over(self, outcome: Result<PanDescriptorList, MacError>) -> ScanAnswer
-        ensures { result ≡ scanned outcome self }
+    pub fn scan_over(self, outcome: Result<PanDescriptorList, MacError>, clock: u32) -> ScanAnswer
+        ensures { result ≡ scanned outcome clock self }
     {
-        let answer = self.scan_answer(outcome);
+        let answer = self.scan_answer(outcome, clock);
         let confirm = confirm_by(answer.step, outcome);
         ScanAnswer { answer, confirm }
     }
@@ -584,12 +592,12 @@ impl State {
             .after_frame(purpose, handled.then)
     }
 
-    // A frame is dealt with once it has taught the table.
-    fn frame_received(&self, purpose: ReceptionFor, frame: ReceivedFrame) -> Answer
-        ensures { result ≡ processed purpose frame (taught_on frame self.now) }
+    // A frame is dealt with once its sender was heard.
+    fn frame_received(&self, purpose: ReceptionFor, frame: ReceivedFrame, clock: u32) -> Answer
+        ensures { result ≡ processed purpose frame (heard_on frame clock self.now) }
     {
         let mut state = *self;
-        state.table = received::learn_neighbor(state.table, frame);
+        state.table = received::hear_sender(state.table, frame, clock);
         let parent = state.parent();
         let everyone = nib::NWK_BROADCAST_ALL;
         let broadcast = neighbor_table::neighbor_ieee_address(&state.table, everyone);
@@ -608,27 +616,32 @@ impl State {
         &self,
         purpose: ReceptionFor,
         outcome: Result<Option<ReceivedFrame>, MacError>,
+        clock: u32,
     ) -> Answer
-        ensures { result ≡ reception_decided outcome purpose self.now }
+        ensures { result ≡ reception_decided outcome clock purpose self.now }
     {
         match outcome {
             Ok(None) => self.go_on(purpose, exchange::no_data(purpose)),
-            Ok(Some(frame)) => self.frame_received(purpose, frame),
+            Ok(Some(frame)) => self.frame_received(purpose, frame, clock),
             Err(MacError) => self.go_on(purpose, PollAnswer::PollMacError),
         }
     }
 
     // The outcome of a poll or a receive, with the frame that it brought. What it was for goes on; an accepted leave request is announced first
-    // (`Ask(Transmit)`).
+    // (`Ask(Transmit)`). The sender of a data or command frame was last heard at `clock`.
     #[tactic(auto, unfolding(crate::specs::Calls::answer, crate::specs::Refusals::outcome))]
-    pub fn reception_over(self, outcome: Result<Option<ReceivedFrame>, MacError>) -> Answer
-        ensures { result ≡ answer self (reception outcome) }
+    pub fn reception_over(
+        self,
+        outcome: Result<Option<ReceivedFrame>, MacError>,
+        clock: u32,
+    ) -> Answer
+        ensures { result ≡ answer self (reception outcome clock) }
     {
         self.unless_bad(|| {
             let Phase::Reception(purpose) = self.control.operation.phase else {
                 return self.refuse(Refusal::NotAwaited);
             };
-            self.decide_reception(purpose, outcome)
+            self.decide_reception(purpose, outcome, clock)
         })
     }
 }

@@ -6,7 +6,7 @@ use mathlib.Core.Bool.{true, false}
 use mathlib.Core.List.{List, [], ◌∷◌, ◌++◌, flat_map}
 use Rattle.nib.specs.LinkCost.{link_cost}
 use Rattle.nib.specs.Attributes.{blank_nib}
-use Rattle.nib.specs.Neighbors.{table_of}
+use Rattle.nib.specs.Neighbors.{blank, table_of}
 use Rattle.nib.specs.declared.NwkNeighbor.{NwkNeighbor}
 use Rattle.nib.specs.declared.DeviceType.TheVariants.{Router}
 use Rattle.nib.specs.NeighborTable.{parent_of, on_entries, adopted, marked}
@@ -33,25 +33,15 @@ use Rattle.rejoin_bound.specs.Bound.{BoundReached}
 -- a router that allows leave requests and remembers its parent
 abbrev remembered : NwkNeighbor
 remembered =
-    record {
-      extended_address = record { 0 = 0 };
+    record blank {
       network_address = record { 0 = 7 };
       device_type = Router;
-      rx_on_when_idle = false;
-      end_device_configuration = 0;
-      relationship = 0;
       lqi = 255;
-      outgoing_cost = 0;
-      age = 0;
-      keepalive_received = false;
       extended_pan_id = record { 0 = 5 };
       logical_channel = 11;
-      depth = 0;
-      permit_joining = false;
       potential_parent = 1;
       router_capacity = true;
       end_device_capacity = true;
-      update_id = 0;
       pan_id = record { 0 = 5 };
     }
 
