@@ -1,6 +1,7 @@
 """The two sides of a comparison: the source in its harness, and the program nodetrace. Builds them and asks them."""
 import hashlib
 import os
+import random
 import shlex
 import subprocess
 import sys
@@ -74,6 +75,23 @@ def ask(command, text=b''):
     if done.returncode:
         return done.stdout + f'(ended with status {done.returncode})\n'.encode()
     return done.stdout
+
+
+def timed(text):
+    """A trace as nodetrace is asked it: with random lines `h` and `clock`, which the source has not, and which change nothing that either prints.
+
+    They are drawn anew from each `node` line. So a part of a scenario has the same, and so have two that differ in their beacons alone."""
+    lines = []
+    for line in text.splitlines(keepends=True):
+        word = line.split()[0]
+        if word == b'node':
+            draw = random.Random(line)
+        elif word not in (b'e', b'f', b'b') and draw.random() < 0.3:
+            lines.append(b'clock\t%d\n' % draw.getrandbits(32))
+        lines.append(line)
+        if word == b'e' and draw.random() < 0.5:
+            lines.append(b'h\t%d\n' % draw.getrandbits(32))
+    return b''.join(lines)
 
 
 def scenarios(text):

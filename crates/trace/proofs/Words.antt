@@ -33,7 +33,7 @@ use Rattle.trace_lines.specs.TraceLines.{word_text}
 use Rattle.trace_lines.specs.declared.Field.{Field}
 use Rattle.trace_lines.specs.declared.Word.{Word}
 use Rattle.trace_lines.specs.declared.Word.TheVariants as word
-use Rattle.trace.specs.Lines.{Line, word_line, refusal_line, nib_line, entry_line, failure_line, rejoin_response_line, timeout_response_line, leave_line, status_line, note_line, scan_line, associate_line, data_line, command_frame_line, poll_line, confirm_line, descriptor_line, candidates_line, step_line, bad_line}
+use Rattle.trace.specs.Lines.{Line, word_line, refusal_line, nib_line, entry_line, failure_line, rejoin_response_line, timeout_response_line, leave_line, status_line, note_line, scan_line, associate_line, data_line, command_frame_line, poll_line, confirm_line, descriptor_line, candidates_line, last_heard_line, step_line, bad_line}
 
 -- each of some words has a text
 abbrev placed : List (Word × String) → Bool
@@ -51,7 +51,8 @@ words_placed : placed (
     ∷ (word.Success, "Success") ∷ (word.InvalidRequest, "InvalidRequest") ∷ (word.NotPermitted, "NotPermitted") ∷ (word.NoNetworks, "NoNetworks")
     ∷ (word.PanAtCapacity, "PanAtCapacity") ∷ (word.PanAccessDenied, "PanAccessDenied") ∷ (word.MacError, "MacError") ∷ (word.Ok, "Ok")
     ∷ (word.NotJoined, "NotJoined") ∷ (word.ParentLinkFailure, "ParentLinkFailure") ∷ (word.PolledData, "Data") ∷ (word.PolledNothing, "Nothing")
-    ∷ (word.Undecodable, "Undecodable") ∷ (word.Bad, "bad") ∷ (word.Done, "done") ∷ []) ≡ true
+    ∷ (word.Undecodable, "Undecodable") ∷ (word.Bad, "bad") ∷ (word.Done, "done") ∷ (word.LastHeard, "lastheard")
+    ∷ []) ≡ true
 words_placed = refl
 
 -- the letter of a field, as the format has it: a word, 4 hexadecimal digits, 16, 16 or a dash, a flag, a decimal number of 8, 16 or 32 bits
@@ -101,6 +102,7 @@ record KindsPlaced : Type 0 where
   expired : (b : Bool) (n : ℕ) → Says (step_line (Step.Expired b) n) "wf"
   timeout_response : (r : EndDeviceTimeoutResponse) → Has (timeout_response_line r) "wbb"
   candidates : (a b : ℕ) → Has (candidates_line (a ∷ b ∷ [])) "wbb"
+  last_heard : (d e : NwkNeighbor) → Has (last_heard_line (d ∷ e ∷ [])) "wmm"
 
 kinds-placed : KindsPlaced
 unfolding step_line
@@ -134,4 +136,5 @@ kinds-placed =
       expired = λ b n. refl;
       timeout_response = λ r. refl;
       candidates = λ a b. refl;
+      last_heard = λ d e. refl;
     }

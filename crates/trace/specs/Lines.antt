@@ -242,6 +242,10 @@ abbrev pub choice_line : Result CandidateList Refusal → Line
 choice_line (Ok list) = candidates_line (items_of list)
 choice_line (Err r) = refusal_line r
 
+-- when each entry was last heard, as many fields as there are entries
+abbrev pub last_heard_line : List NwkNeighbor → Line
+last_heard_line es = Named word.LastHeard ∷ map (λ e. U32 e.last_heard) es
+
 -- the line with this number is not of the format
 abbrev pub bad_line : ℕ → Line
 bad_line n = Named word.Bad ∷ U32 n ∷ []

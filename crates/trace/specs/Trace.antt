@@ -18,9 +18,9 @@ use Rattle.trace_calls.specs.TraceCalls.{before, turn_taken}
 use Rattle.trace_calls.specs.declared.Session.{Session}
 use Rattle.trace_calls.specs.declared.Answered.{Answered}
 use Rattle.trace_calls.specs.declared.Said.{Said}
-use Rattle.trace_calls.specs.declared.Said.TheVariants.{Bad, Nothing, Told, Chosen, Shown, Paged}
+use Rattle.trace_calls.specs.declared.Said.TheVariants.{Bad, Nothing, Told, Chosen, Shown, Paged, LastHeard}
 use Rattle.trace_calls.specs.declared.Turn.{Turn}
-use Rattle.trace.specs.Lines.{Line, reset_line, note_line, step_line, descriptor_line, node_line, entry_line, failure_line, slot_lines, choice_line, bad_line}
+use Rattle.trace.specs.Lines.{Line, reset_line, note_line, step_line, descriptor_line, node_line, entry_line, failure_line, slot_lines, choice_line, last_heard_line, bad_line}
 use Rattle.trace.specs.declared.Run.{Run}
 
 -- a line that is not printed has no text
@@ -85,6 +85,7 @@ text_by (Told a) n s = lines_text (told_lines a)
 text_by (Chosen choice) n s = line_text (choice_line choice)
 text_by Shown n s = lines_text (state_lines s)
 text_by (Paged k) n s = page_text k s
+text_by LastHeard n s = line_text (last_heard_line (entries_of s.table))
 
 abbrev pub text_of : ℕ → Turn → List ℕ
 text_of n t = text_by t.said n t.session.state
@@ -97,6 +98,7 @@ says_bad (Told a) = false
 says_bad (Chosen choice) = false
 says_bad Shown = false
 says_bad (Paged k) = false
+says_bad LastHeard = false
 
 -- the call that a line says, made on the session
 unfoldable pub turn_of : List ℕ → Session → Turn

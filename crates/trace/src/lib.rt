@@ -43,6 +43,7 @@ ghost use Rattle.trace.specs.Lines.{
   descriptor_line,
   candidates_line,
   choice_line,
+  last_heard_line,
   bad_line,
 };
 ghost use Rattle.trace.specs.Trace.{some_text, lines_text, networks_of, network_count, each_line, told_lines, nlme_lines, state_lines, page_bytes, page_text, text_of, says_bad, turn_of, number_after, run_before, printed, run_after};
@@ -635,15 +636,15 @@ fn print_told(out: &mut Writer, told: Answered)
     print_each(out, networks_of(&told.networks));
 }
 
-// How many fields a line of candidates has at most: its word, and the index of each entry that a table has room for.
-const CANDIDATE_FIELDS: usize = 1 + MAX_NEIGBOUR_TABLE as usize;
+// How many fields a line has at most that tells something of entries: its word, and one for each entry that a table has room for.
+const ENTRY_FIELDS: usize = 1 + MAX_NEIGBOUR_TABLE as usize;
 
 // The candidates' indexes, as many fields as there are.
 fn print_candidates(out: &mut Writer, list: CandidateList)
     ensures { out.new ≡ with_text out.old (line_text (candidates_line (items_of list))) }
 {
     let used = list.used();
-    let mut fields = [Field::Named(Word::Candidates); CANDIDATE_FIELDS];
+    let mut fields = [Field::Named(Word::Candidates); ENTRY_FIELDS];
     for (i, index) in used.iter().enumerate() {
         fields[i + 1] = Field::U8(*index);
     }
@@ -658,6 +659,18 @@ fn print_choice(out: &mut Writer, choice: Result<CandidateList, Refusal>)
         Ok(list) => print_candidates(out, list),
         Err(refusal) => print_refusal(out, refusal),
     }
+}
+
+// When each entry was last heard, as many fields as there are entries.
+fn print_last_heard(out: &mut Writer, table: NeighborTable)
+    ensures { out.new ≡ with_text out.old (line_text (last_heard_line (entries_of table))) }
+{
+    let used = table.used();
+    let mut fields = [Field::Named(Word::LastHeard); ENTRY_FIELDS];
+    for (i, entry) in used.iter().enumerate() {
+        fields[i + 1] = Field::U32(entry.last_heard);
+    }
+    put_line(out, &fields[..used.len() + 1])
 }
 
 // The line that says that a line is not of the format, with its number.
@@ -739,6 +752,7 @@ fn print_turn(out: &mut Writer, number: u32, turn: Turn)
         Said::Chosen(choice) => print_choice(out, choice),
         Said::Shown => print_state(out, turn.session.state),
         Said::Paged(bytes) => print_page(out, turn.session.state, bytes),
+        Said::LastHeard => print_last_heard(out, turn.session.state.table),
     }
 }
 

@@ -4,7 +4,7 @@
 ghost use Rattle.std.specs.Prelude.{◌≡◌};
 ghost use Rattle.nib.specs.Neighbors.{pushed};
 ghost use Rattle.node.specs.Looks.{with_table};
-ghost use Rattle.trace_calls.specs.TraceCalls.{no_node, node_begun, with_pair, with_pairs, unheard, with_beacon, before, set_up, running, saying, nothing, told, scan_told, scan_after, choice_told, call_made, has_room, has_node, may_come, is_in_place, turn_taken};
+ghost use Rattle.trace_calls.specs.TraceCalls.{no_node, node_begun, with_pair, with_pairs, with_last_heard, unheard, with_beacon, before, set_up, at_clock, running, saying, nothing, told, scan_told, scan_after, choice_told, call_made, has_room, has_node, may_come, is_in_place, turn_taken};
 
 use candidates::CandidateList;
 use discovery::NlmeNetworkDiscoveryConfirm;
@@ -13,22 +13,24 @@ use discovery::mlme::{
     SuperframeSpecification, ZigbeeBeacon,
 };
 use nib::{
-    CapabilityInformation, ExtendedPanId, IeeeAddress, MAX_NEIGBOUR_TABLE, Nib, NwkNeighbor, PanId,
-    ShortAddress,
+    CapabilityInformation, ExtendedPanId, IeeeAddress, MAX_NEIGBOUR_TABLE, NeighborTable, Nib,
+    NwkNeighbor, PanId, ShortAddress,
 };
 use node::{Answer, State};
 use operation::{Note, Refusal, Step};
 use supervision::{TransmitFailure, TransmitFailures};
 use trace_input::{NodeFields, TraceCall};
 
-// Which lines may come next where no beacon is due: a `node` line alone; further lines of the state, or calls; calls.
+// Which lines may come next where no beacon is due: a `node` line alone; further lines of the state, or others; others.
 #[derive(Clone, Copy)]
 pub enum Stage {
     // before the first `node` line
     NoNode,
-    // after a `node` line, before the first call
+    // after a `node` line and further lines of the state
     SettingUp,
-    // after the first call
+    // directly below an `e` line, where an `h` line may come too
+    BelowEntry,
+    // after any other line
     Running,
 }
 
@@ -43,6 +45,8 @@ pub struct Session {
     pub missing: u32,
     // the beacons of the last scan
     pub beacons: PanDescriptorList,
+    // the caller's clock in seconds, which is handed on with the outcomes that want it
+    pub clock: u32,
 }
 
 // What a node answers to a call.
@@ -73,6 +77,8 @@ pub enum Said {
     Shown,
     // a page, by the length of the lent buffer
     Paged(u16),
+    // when each entry was last heard
+    LastHeard,
 }
 
 // The session after a line, and what the line says.
@@ -140,6 +146,24 @@ fn with_entry(mut state: State, e: NwkNeighbor) -> State
     state
 }
 
+// The last entry, which is that of the `e` line above, was last heard at a time.
+fn with_last_heard(mut table: NeighborTable, seconds: u32) -> NeighborTable
+    ensures { result ≡ with_last_heard seconds table }
+{
+    let last = table.count.saturating_sub(1);
+    if last < MAX_NEIGBOUR_TABLE {
+        table.entries[last as usize].last_heard = seconds;
+    }
+    table
+}
+
+fn with_heard(mut state: State, seconds: u32) -> State
+    ensures { result ≡ with_table (with_last_heard seconds state.table) state }
+{
+    state.table = with_last_heard(state.table, seconds);
+    state
+}
+
 fn with_failure(mut state: State, p: TransmitFailure) -> State
     ensures { result ≡ with_pairs (with_pair p state.control.nlme.transmit_failures) state }
 {
@@ -196,6 +220,7 @@ impl Session {
             stage: Stage::NoNode,
             missing: 0,
             beacons: unheard(0),
+            clock: 0,
         }
     }
 
@@ -208,9 +233,19 @@ impl Session {
         }
     }
 
+    // With the caller's clock at a time.
+    fn at_clock(self, seconds: u32) -> Session
+        ensures { result ≡ at_clock seconds self }
+    {
+        Session {
+            clock: seconds,
+            ..self
+        }
+    }
+
     // After a call, with the state that it leaves.
     fn running(self, state: State) -> Session
-        ensures { result ≡ running state self.beacons }
+        ensures { result ≡ running state self }
     {
         Session {
             state,
@@ -220,13 +255,13 @@ impl Session {
         }
     }
 
-    // `node`, `e` and `f`, with the state that they leave.
-    fn set_up(self, state: State) -> Turn
-        ensures { result ≡ nothing (set_up state self) }
+    // `node` and the further lines of the state, with the state that they leave.
+    fn set_up(self, state: State, stage: Stage) -> Turn
+        ensures { result ≡ nothing (set_up state stage self) }
     {
         let session = Session {
             state,
-            stage: Stage::SettingUp,
+            stage,
             missing: 0,
             ..self
         };
@@ -235,7 +270,7 @@ impl Session {
 
     // A call's answer, with the networks that a discovery found.
     fn told(self, answer: Answer, networks: Option<NlmeNetworkDiscoveryConfirm>) -> Turn
-        ensures { result ≡ told answer networks self.beacons }
+        ensures { result ≡ told answer networks self }
     {
         let with_networks = Answered {
             reset: answer.reset,
@@ -250,7 +285,7 @@ impl Session {
     fn scan_told(self, outcome: Result<PanDescriptorList, MacError>) -> Turn
         ensures { result ≡ scan_told outcome self }
     {
-        let scanned = self.state.scan_over(outcome);
+        let scanned = self.state.scan_over(outcome, self.clock);
         self.told(scanned.answer, scanned.confirm)
     }
 
@@ -262,10 +297,10 @@ impl Session {
             return self.scan_told(Ok(beacons));
         }
         let session = Session {
-            state: self.state,
             stage: Stage::Running,
             missing,
             beacons,
+            ..self
         };
         session.saying(Said::Nothing)
     }
@@ -285,9 +320,12 @@ impl Session {
     {
         let state = self.state;
         match call {
-            TraceCall::Node(node) => self.set_up(node_begun(node)),
-            TraceCall::Entry(e) => self.set_up(with_entry(state, e)),
-            TraceCall::Failure(p) => self.set_up(with_failure(state, p)),
+            TraceCall::Node(node) => self.at_clock(0).set_up(node_begun(node), Stage::SettingUp),
+            TraceCall::Entry(e) => self.set_up(with_entry(state, e), Stage::BelowEntry),
+            TraceCall::Failure(p) => self.set_up(with_failure(state, p), Stage::SettingUp),
+            TraceCall::Heard(seconds) => {
+                self.set_up(with_heard(state, seconds), Stage::SettingUp)
+            }
             TraceCall::Discovery(range) => self.told(state.start_discovery(range), None),
             TraceCall::Join(request) => self.told(state.join(request), None),
             TraceCall::Send {
@@ -306,7 +344,9 @@ impl Session {
             TraceCall::ScanFailed => self.scan_told(Err(MacError)),
             TraceCall::Association(outcome) => self.told(state.association_over(outcome), None),
             TraceCall::Transmission(sent) => self.told(state.transmission_over(sent), None),
-            TraceCall::Reception(outcome) => self.told(state.reception_over(outcome), None),
+            TraceCall::Reception(outcome) => {
+                self.told(state.reception_over(outcome, self.clock), None)
+            }
             TraceCall::Tick(ms) => self.told(state.tick_parent_timeout(ms), None),
             TraceCall::TakeLeave => self.told(state.take_leave_indication(), None),
             TraceCall::TakeStatus => self.told(state.take_nwk_status_indication(), None),
@@ -316,7 +356,12 @@ impl Session {
                 join_as_router,
                 require_permit_joining,
             } => self.choice_told(extended_pan_id, join_as_router, require_permit_joining),
+            TraceCall::Clock(seconds) => self
+                .at_clock(seconds)
+                .running(state)
+                .saying(Said::Nothing),
             TraceCall::PrintState => self.running(state).saying(Said::Shown),
+            TraceCall::PrintLastHeard => self.running(state).saying(Said::LastHeard),
             TraceCall::Page(length) => self.running(state).saying(Said::Paged(length)),
         }
     }
@@ -329,7 +374,7 @@ impl Stage {
         ensures { result ≡ has_room self count }
     {
         match self {
-            Stage::SettingUp => count < MAX_NEIGBOUR_TABLE,
+            Stage::SettingUp | Stage::BelowEntry => count < MAX_NEIGBOUR_TABLE,
             Stage::NoNode | Stage::Running => false,
         }
     }
@@ -339,7 +384,7 @@ impl Stage {
     {
         match self {
             Stage::NoNode => false,
-            Stage::SettingUp | Stage::Running => true,
+            Stage::SettingUp | Stage::BelowEntry | Stage::Running => true,
         }
     }
 }
@@ -355,6 +400,7 @@ impl Session {
             TraceCall::Failure(_) => self
                 .stage
                 .has_room(self.state.control.nlme.transmit_failures.count),
+            TraceCall::Heard(_) => matches!(self.stage, Stage::BelowEntry),
             TraceCall::Beacon(_) => false,
             _ => self.stage.has_node(),
         }

@@ -99,7 +99,7 @@ node_of l =
 unfoldable pub device_type_of : ℕ → DeviceType
 device_type_of n = get_or (Coordinator ∷ Router ∷ EndDevice ∷ []) n (Invalid n)
 
--- `e`: "one neighbour entry, in the source's field order"
+-- `e`: "one neighbour entry, in the source's field order"; when it was last heard stands in a line of its own, `h`, and is 0 where there is none
 abbrev pub entry_with : DeviceType → InputLine → NwkNeighbor
 entry_with type l =
     record {
@@ -122,6 +122,7 @@ entry_with type l =
       end_device_capacity = flag_at 17 l;
       update_id = bits8 18 l;
       pan_id = pan_id_at 19 l;
+      last_heard = 0;
     }
 
 abbrev pub entry_of : InputLine → NwkNeighbor
@@ -236,6 +237,9 @@ call_by kind.State l = call.PrintState
 call_by kind.Pair l = call.Failure (failure_of l)  -- f
 call_by kind.Page l = call.Page (bits16 1 l)
 call_by kind.Refresh l = call.Refresh
+call_by kind.Heard l = call.Heard (bits32 1 l)  -- h
+call_by kind.Clock l = call.Clock (bits32 1 l)
+call_by kind.LastHeard l = call.PrintLastHeard
 
 abbrev pub call_of : InputLine → TraceCall
 call_of l = call_by l.kind l

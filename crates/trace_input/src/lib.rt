@@ -94,6 +94,12 @@ pub enum TraceCall {
     Page(u16),
     // `refresh`
     Refresh,
+    // `h`: the seconds at which the last entry was heard
+    Heard(u32),
+    // `clock`: the caller's clock in seconds, from here on
+    Clock(u32),
+    // `lastheard`
+    PrintLastHeard,
 }
 
 // Numbers of a line, each cut to its type: the fields of a line that was read fit their types. `stack_profile_of` alone cuts its parts itself.
@@ -200,6 +206,7 @@ fn entry_with(line: InputLine, device_type: DeviceType) -> NwkNeighbor
         end_device_capacity: flag_at(line, 17),
         update_id: bits8(line, 18),
         pan_id: pan_id_at(line, 19),
+        last_heard: 0,
     }
 }
 
@@ -444,5 +451,8 @@ pub fn call_of(line: InputLine) -> TraceCall
         InputKind::Pair => TraceCall::Failure(failure_of(line)),
         InputKind::Page => TraceCall::Page(bits16(line, 1)),
         InputKind::Refresh => TraceCall::Refresh,
+        InputKind::Heard => TraceCall::Heard(bits32(line, 1)),
+        InputKind::Clock => TraceCall::Clock(bits32(line, 1)),
+        InputKind::LastHeard => TraceCall::PrintLastHeard,
     }
 }

@@ -14,7 +14,7 @@ use Rattle.text.proofs.Numbers.{decimal-long, hex-long}
 use Rattle.text.proofs.Written.{in_turn}
 use Rattle.trace_lines.specs.declared.Field.{Field}
 use Rattle.trace_lines.specs.declared.Word.{Word}
-use Rattle.trace_lines.specs.declared.Word.TheVariants.{E, Node, F, Refused, Scan, Associate, Transmit, Poll, Receive, SetChannel, SetAddress, Reset, Discovered, D, DiscoveryFailed, Confirm, SendAnswer, PollAnswer, Negotiated, KeepaliveAnswer, Expired, LeaveIndication, StatusIndication, Nothing, Candidates, RejoinResponse, TimeoutResponse, End, DataFrame, RejoinRequest, TimeoutRequest, Leave, Success, InvalidRequest, NotPermitted, NoNetworks, PanAtCapacity, PanAccessDenied, MacError, Ok, NotJoined, ParentLinkFailure, PolledData, PolledNothing, Undecodable, Bad, Done}
+use Rattle.trace_lines.specs.declared.Word.TheVariants.{E, Node, F, Refused, Scan, Associate, Transmit, Poll, Receive, SetChannel, SetAddress, Reset, Discovered, D, DiscoveryFailed, Confirm, SendAnswer, PollAnswer, Negotiated, KeepaliveAnswer, Expired, LeaveIndication, StatusIndication, Nothing, Candidates, RejoinResponse, TimeoutResponse, End, DataFrame, RejoinRequest, TimeoutRequest, Leave, Success, InvalidRequest, NotPermitted, NoNetworks, PanAtCapacity, PanAccessDenied, MacError, Ok, NotJoined, ParentLinkFailure, PolledData, PolledNothing, Undecodable, Bad, Done, LastHeard}
 use Rattle.trace_lines.specs.TraceLines.{word_text, field_text, joined, line_text}
 use Rattle.trace_lines.specs.Private.{tab_before}
 use Rattle.std.specs.Prelude.{Some, None}
@@ -86,6 +86,7 @@ word-short w = elim w as (λ v. Short (word_text v)) [
   | Undecodable ↦ omega arith
   | Bad ↦ omega arith
   | Done ↦ omega arith
+  | LastHeard ↦ omega arith
 ]
 
 pub field-short : (f : Field) → Short (field_text f)

@@ -77,6 +77,9 @@ word_of kind.State = bytes "state"
 word_of kind.Pair = bytes "f"
 word_of kind.Page = bytes "page"
 word_of kind.Refresh = bytes "refresh"
+word_of kind.Heard = bytes "h"
+word_of kind.Clock = bytes "clock"
+word_of kind.LastHeard = bytes "lastheard"
 
 -- and the letters of its further fields
 abbrev pub letters_of : InputKind → List ℕ
@@ -114,6 +117,9 @@ letters_of kind.State = bytes ""
 letters_of kind.Pair = bytes "4b"
 letters_of kind.Page = bytes "p"
 letters_of kind.Refresh = bytes ""
+letters_of kind.Heard = bytes "m"
+letters_of kind.Clock = bytes "m"
+letters_of kind.LastHeard = bytes ""
 
 -- all kinds, in the order in which a line is tried
 abbrev pub kinds : List InputKind
@@ -122,7 +128,7 @@ kinds =
     ∷ kind.ScanFailed ∷ kind.PollFailed ∷ kind.Associated ∷ kind.AssociateFailed ∷ kind.Undecodable ∷ kind.Data ∷ kind.RejoinResponse
     ∷ kind.TimeoutResponse ∷ kind.Leave ∷ kind.Command ∷ kind.OtherFrame ∷ kind.Discovery ∷ kind.Join ∷ kind.Send ∷ kind.Poll
     ∷ kind.Receive ∷ kind.Negotiate ∷ kind.Keepalive ∷ kind.TakeLeave ∷ kind.TakeStatus ∷ kind.Candidates ∷ kind.State ∷ kind.Pair
-    ∷ kind.Page ∷ kind.Refresh ∷ []
+    ∷ kind.Page ∷ kind.Refresh ∷ kind.Heard ∷ kind.Clock ∷ kind.LastHeard ∷ []
 
 -- the number in a field, by its letter; that of a dash is 0
 unfoldable pub number_of : ℕ → List ℕ → Option ℕ
@@ -217,6 +223,7 @@ word_text word.PolledNothing = bytes "Nothing"
 word_text word.Undecodable = bytes "Undecodable"
 word_text word.Bad = bytes "bad"
 word_text word.Done = bytes "done"
+word_text word.LastHeard = bytes "lastheard"
 
 -- an IEEE address, or the dash that stands for none
 abbrev pub or_dash_text : Option ℕ → List ℕ

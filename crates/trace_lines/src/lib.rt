@@ -80,10 +80,16 @@ pub enum InputKind {
     Page,
     // `refresh`: the parent's timer is restarted
     Refresh,
+    // `h`: when the entry of the line above was last heard
+    Heard,
+    // `clock`: the caller's clock is set
+    Clock,
+    // `lastheard`: the last-heard times are printed
+    LastHeard,
 }
 
 // All kinds, in the order in which a line is tried.
-const KINDS: [InputKind; 34] = [
+const KINDS: [InputKind; 37] = [
     InputKind::Entry,
     InputKind::ShortBeacon,
     InputKind::ExtendedBeacon,
@@ -118,6 +124,9 @@ const KINDS: [InputKind; 34] = [
     InputKind::Pair,
     InputKind::Page,
     InputKind::Refresh,
+    InputKind::Heard,
+    InputKind::Clock,
+    InputKind::LastHeard,
 ];
 
 // How many fields a line has at most, its word included.
@@ -178,6 +187,9 @@ impl InputKind {
             InputKind::Pair => b"f",
             InputKind::Page => b"page",
             InputKind::Refresh => b"refresh",
+            InputKind::Heard => b"h",
+            InputKind::Clock => b"clock",
+            InputKind::LastHeard => b"lastheard",
         }
     }
 
@@ -206,6 +218,8 @@ impl InputKind {
             InputKind::Candidates => b"Gff",
             InputKind::Pair => b"4b",
             InputKind::Page => b"p",
+            InputKind::Heard => b"m",
+            InputKind::Clock => b"m",
             _ => b"",
         }
     }
@@ -349,6 +363,7 @@ pub enum Word {
     Undecodable,
     Bad,
     Done,
+    LastHeard,
 }
 
 // A field of a line that is written: a word; 4 hexadecimal digits, 16, or 16 or a dash; a flag, 0 or 1; or a decimal number of a type.
@@ -425,6 +440,7 @@ impl Word {
             Word::Undecodable => b"Undecodable",
             Word::Bad => b"bad",
             Word::Done => b"done",
+            Word::LastHeard => b"lastheard",
         }
     }
 }
