@@ -32,12 +32,12 @@ specs = [f for f in glob.glob(f'{ROOT}/crates/*/specs/*.antt') if os.path.basena
 stated = [f for f in specs if os.path.basename(f)[:-5] in STATED]
 rest = [f for f in specs if f not in stated]
 of_traces = [f for f in rest if '/crates/trace' in f]
-of_lists = [f for f in rest if '/crates/yard_list/' in f]
-of_programs = [f for f in rest if '/crates/filter/' in f or '/crates/pieces/' in f]
+of_lists = [f for f in rest if '/crates/yard_list/' in f or '/crates/neighbor_line/' in f]
+of_programs = [f for f in rest if '/crates/filter/' in f or '/crates/pieces/' in f or '/crates/line_filter/' in f or '/crates/old_lines/' in f]
 code = glob.glob(f'{ROOT}/crates/*/src/*.rt')
 print('statements of the theorems\t', lines(stated))
 print('definitions of the node\t', lines(f for f in rest if f not in of_traces + of_lists + of_programs))
-print('definitions of the yard list\t', lines(of_lists))
+print('definitions of the yard list, and of the n line and its moves\t', lines(of_lists))
 print('definitions of traces\t', lines(of_traces))
 print('definitions of what programs read and write\t', lines(of_programs))
 print('types in the code\t', types(code))
