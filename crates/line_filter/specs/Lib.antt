@@ -1,0 +1,2 @@
+-- The definitions of `line_filter`.
+pub mod Private
