@@ -1,19 +1,28 @@
 // A program that answers its input line by line: standard input is read in pieces, its lines are taken out of them, and each is answered before the next read.
 #![tactic(auto)]
 
-ghost use Rattle.std.specs.Prelude.{◌≡◌, ◌≤◌, length};
-ghost use Rattle.line_filter.specs.Private.{KeptWithin};
+ghost use Rattle.std.specs.Prelude.{ℕ, ◌≡◌, ◌≤◌, Bool, List, Result, length};
+ghost use Rattle.filter.specs.declared.Failed.{Failed};
+ghost use Rattle.line_filter.specs.Runs.{RunOver, cut_parts};
+ghost use Rattle.line_filter.specs.Private.{KeptWithin, Goes};
 
 use filter::{Edges, Failed};
 use std::io;
 
 // What a program makes of the lines of its input.
 pub trait LineFilter {
+    // what it is after a line, and what it said
+    ghost answers: { Self → List ℕ → Result Bool Failed → Self → Type 0 };
+    // and after the end
+    ghost finishes: { Self → List ℕ → Result (Unit {0}) Failed → Self → Type 0 };
+
     // Answers a line, without its line feed, and says whether the run goes on.
-    fn answer(&mut self, line: &[u8]) -> Result<bool, Failed>;
+    fn answer(&mut self, line: &[u8]) -> Result<bool, Failed>
+        ensures { answers self.old line.now result self.new };
 
     // Answers the end of the input, and what stands there that no line feed ends.
-    fn finish(&mut self, rest: &[u8]) -> Result<(), Failed>;
+    fn finish(&mut self, rest: &[u8]) -> Result<(), Failed>
+        ensures { finishes self.old rest.now result self.new };
 }
 
 // Answers the lines that are ended in the next bytes of the input. What is said is how many bytes of a line that is not ended are kept; nothing where the run is
@@ -25,7 +34,8 @@ fn answer_piece<F: LineFilter>(
     piece: &[u8],
 ) -> Result<Option<usize>, Failed>
     requires { kept ≤ length line.old }
-    ensures { KeptWithin result line.new }
+    ensures within { KeptWithin result line.new }
+    ensures goes { Goes F.answers F.finishes filter.old line.old kept piece.now result line.new filter.new }
 {
     let mut at = 0;
     while at < piece.len() {
@@ -49,7 +59,9 @@ pub fn answer_input<R: io::Input + Eprint + Alloc, F: LineFilter>(
     edges: &Edges<R>,
     filter: &mut F,
     line: &mut [u8],
-) -> Result<(), Failed> {
+) -> Result<(), Failed>
+    ensures { (input : List ℕ) × RunOver F.answers F.finishes filter.old (cut_parts (length line.old) input) result filter.new }
+{
     let mut kept = 0;
     for _ in 0..u64::MAX {
         let mut piece = [0u8; 16384];
@@ -62,5 +74,5 @@ pub fn answer_input<R: io::Input + Eprint + Alloc, F: LineFilter>(
             None => return Ok(()),
         }
     }
-    Ok(())
+    Err(Failed)
 }

@@ -1,6 +1,9 @@
 // Reads a trace from standard input and prints what the node answers.
 #![tactic(auto)]
 
+ghost use Rattle.std.specs.Prelude.{◌≡◌, [], ◌&&◌, IfOk, cond, eqb, length};
+ghost use Rattle.trace.specs.Trace.{run_after};
+
 use filter::{Edges, Failed};
 use line_filter::LineFilter;
 use std::process::ExitCode;
@@ -30,6 +33,10 @@ struct Printing<'a> {
 }
 
 impl LineFilter for Printing<'_> {
+    ghost answers = { λ p line said q. (q.run ≡ run_after line p.run) × IfOk said (λ goes_on. goes_on ≡ q.run.good) };
+
+    ghost finishes = { λ p rest said q. q.run ≡ cond (eqb (length rest) 0 && eqb p.run.session.missing 0) p.run (run_after [] p.run) };
+
     // A bad line ends the run. `nodetrace_cases` answers a line alike: one for both would be a crate more, since `trace` prints nothing and `filter` knows no
     // run.
     fn answer(&mut self, line: &[u8]) -> Result<bool, Failed> {
