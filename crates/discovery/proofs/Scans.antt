@@ -2,31 +2,37 @@
 use Rattle.std.specs.Prelude.{Option, Some, None, is_some, count_by}
 use Rattle.std.proofs.lemmas.List.Recursion.{is_count_by}
 use Prim.Native.Nat.{ℕ, ◌+◌, ◌<◌, ◌≤◌}
-use mathlib.Core.Path.{◌≡◌, refl}
+use mathlib.Core.Path.{◌≡◌, refl, ap, ◌∙◌}
 use mathlib.Core.Bool.{Bool, true, false, cond}
-use mathlib.Core.List.{List, [], ◌∷◌, ◌++◌, flat_map}
+use mathlib.Core.List.{List, [], ◌∷◌, ◌++◌, map, map-append, flat_map}
 use native.Mathlib.Omega.{arith}
 use borrow.Author.Tests.{ltb-true, ltb-false, le-ltb}
 use lib.Dec.{ltb, eqb}
-use lib.ListN.{length, take, get_or, length-append}
+use lib.ListN.{length, take, get_or, length-append, length-map}
 use lib.Seq.{take_all, take-append-le, length-take-le}
 use Rattle.lists.specs.Lists.{select}
 use Rattle.lists.proofs.Collect.{flat_map-next, select-flat_map}
 use Rattle.nib.specs.Neighbors.{table_of, pushed}
+use Rattle.nib.specs.NeighborTable.{heard_at}
 use Rattle.nib.specs.declared.NwkNeighbor.{NwkNeighbor}
 use Rattle.nib.proofs.Tables.{push-of}
 use Rattle.discovery.specs.declared.mlme.Address.{Address}
 use Rattle.discovery.specs.declared.mlme.Address.TheVariants.{Short, Extended}
 use Rattle.discovery.specs.declared.mlme.PanDescriptor.{PanDescriptor}
-use Rattle.discovery.specs.Discovery.{entry_from, neighbor_by, neighbor_of, present, neighbors_of, short_addressed}
+use Rattle.discovery.specs.Discovery.{entry_from, neighbor_by, neighbor_of, present, neighbors_of, neighbors_heard, short_addressed}
 
 abbrev entries_from : PanDescriptor → List NwkNeighbor
 entries_from d = present (neighbor_of d)
 
 -- one descriptor more
-pub neighbors-next : (ds : List PanDescriptor) (i : ℕ) (d : PanDescriptor) → i < length ds → neighbors_of (take (i + 1) ds) ≡ neighbors_of (take i ds) ++ present (neighbor_of (get_or ds i d))
+neighbors-next : (ds : List PanDescriptor) (i : ℕ) (d : PanDescriptor) → i < length ds → neighbors_of (take (i + 1) ds) ≡ neighbors_of (take i ds) ++ present (neighbor_of (get_or ds i d))
 unfolding neighbors_of
 neighbors-next = flat_map-next entries_from
+
+pub heard-next : (t : ℕ) (ds : List PanDescriptor) (i : ℕ) (d : PanDescriptor) → i < length ds
+    → neighbors_heard t (take (i + 1) ds) ≡ neighbors_heard t (take i ds) ++ map (heard_at t) (present (neighbor_of (get_or ds i d)))
+heard-next t ds i d h =
+    ap (map (heard_at t)) (neighbors-next ds i d h) ∙ map-append (heard_at t) (neighbors_of (take i ds)) (present (neighbor_of (get_or ds i d)))
 
 -- a beacon gives one entry at most
 pub present-one : (x : Option NwkNeighbor) → length (present x) ≤ 1
@@ -44,8 +50,8 @@ short_count = is_count_by (λ ds. length (neighbors_of ds)) (λ d. is_some (neig
     step (Some e) l = omega arith
 
 -- with at most 16 short-addressed descriptors no entry is left out of the table
-pub neighbors-all : (ds : List PanDescriptor) → short_addressed ds ≤ 16 → take 16 (neighbors_of ds) ≡ neighbors_of ds
-neighbors-all ds h = take_all 16 (neighbors_of ds) h
+pub heard-all : (t : ℕ) (ds : List PanDescriptor) → short_addressed ds ≤ 16 → take 16 (neighbors_heard t ds) ≡ neighbors_heard t ds
+heard-all t ds h = take_all 16 (neighbors_heard t ds) (omega (arith, length-map (neighbors_of ds) (heard_at t)))
 
 -- the entries of a network are those made from its beacons, in order
 pub network-neighbors : (n : ℕ) (ds : List PanDescriptor)

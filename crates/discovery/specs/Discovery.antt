@@ -1,9 +1,10 @@
 -- The neighbour entries and the confirm that a discovery makes from a scan's descriptors (01, "Neighbour entry"; Zigbee 3.2.2.3 and 3.2.2.4).
 use Rattle.std.specs.Prelude.{Option, Some, None, ℕ, false, cond, ◌||◌, eqb, length, replicate}
-use mathlib.Core.List.{List, [], ◌∷◌, flat_map}
+use mathlib.Core.List.{List, [], ◌∷◌, map, flat_map}
 use Rattle.lists.specs.Lists.{over}
 use Rattle.nib.specs.Bits.{bit, bits}
 use Rattle.nib.specs.Neighbors.{NONE, device_type_at}
+use Rattle.nib.specs.NeighborTable.{heard_at}
 use Rattle.nib.specs.declared.NwkNeighbor.{NwkNeighbor}
 use Rattle.nib.specs.declared.ShortAddress.{ShortAddress}
 use Rattle.discovery.specs.declared.mlme.Address.{Address}
@@ -15,7 +16,8 @@ use Rattle.discovery.specs.declared.NlmeNetworkDiscoveryConfirm.{NlmeNetworkDisc
 unfoldable pub potential_parent_of : ℕ → ℕ → ℕ
 potential_parent_of profile address = cond (bit 10 profile || (bit 15 profile || eqb address 0x0000)) 1 0
 
--- the entry of a descriptor whose sender has that short address: IEEE address 0, relationship NONE (3), and what the beacon says (Zigbee Tables 3-63 and 3-64)
+-- the entry of a descriptor whose sender has that short address: IEEE address 0, relationship NONE (3), and what the beacon says (Zigbee Tables 3-63 and 3-64);
+-- no beacon says when it was heard
 unfoldable pub entry_from : PanDescriptor → ShortAddress → NwkNeighbor
 entry_from d address =
     record {
@@ -38,6 +40,7 @@ entry_from d address =
       end_device_capacity = bit 15 d.zigbee_beacon.stack_profile.0;
       update_id = d.zigbee_beacon.update_id;
       pan_id = d.coord_pan_id;
+      last_heard = 0;
     }
 
 -- one entry for a short-addressed descriptor, none for another
@@ -56,6 +59,10 @@ present (Some e) = e ∷ []
 -- one entry for each short-addressed descriptor, in scan order; others are dropped (01, "Neighbour entry")
 unfoldable pub neighbors_of : List PanDescriptor → List NwkNeighbor
 neighbors_of ds = flat_map (λ d. present (neighbor_of d)) ds
+
+-- "discovery, a rejoin's scan too, sets it from the caller's clock" (02, L4): each of them was last heard when the scan's outcome came
+abbrev pub neighbors_heard : ℕ → List PanDescriptor → List NwkNeighbor
+neighbors_heard t ds = map (heard_at t) (neighbors_of ds)
 
 -- how many descriptors are short-addressed (01, "When a call is turned down"): each of them gives one entry
 abbrev pub short_addressed : List PanDescriptor → ℕ

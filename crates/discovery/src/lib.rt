@@ -8,7 +8,7 @@ ghost use Rattle.discovery.specs.Discovery.{
   potential_parent_of,
   entry_from,
   neighbor_of,
-  neighbors_of,
+  neighbors_heard,
   short_addressed,
   network_descriptor_of,
   blank_descriptor,
@@ -161,13 +161,14 @@ pub fn short_addressed(list: PanDescriptorList) -> usize
         .count()
 }
 
-// The neighbour table of a scan: its short-addressed descriptors in their order, at most 16.
-pub fn neighbor_table_from(list: PanDescriptorList) -> NeighborTable
-    ensures { result ≡ table_of (take 16 (neighbors_of (descriptors_of list))) }
+// The neighbour table of a scan: its short-addressed descriptors in their order, at most 16, last heard at the time of its outcome.
+pub fn neighbor_table_from(list: PanDescriptorList, clock: u32) -> NeighborTable
+    ensures { result ≡ table_of (take 16 (neighbors_heard clock (descriptors_of list))) }
 {
     let mut table = NeighborTable::new();
     for pd in descriptors_in_use(&list) {
-        if let Some(e) = neighbor_from(*pd) {
+        if let Some(mut e) = neighbor_from(*pd) {
+            e.last_heard = clock;
             table.add(e);
         }
     }

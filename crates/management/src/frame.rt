@@ -1,6 +1,6 @@
 // NWK frames as values: those received, with the header fields that decisions read, and those sent.
 ghost use Rattle.std.specs.Prelude.{◌≡◌};
-ghost use Rattle.management.specs.Frame.{next_seq};
+ghost use Rattle.management.specs.Frame.{sender_of, next_seq};
 
 use crate::{EndDeviceTimeoutResponse, RejoinResponse};
 use nib::{CapabilityInformation, IeeeAddress, ShortAddress};
@@ -38,10 +38,27 @@ pub enum ReceivedFrame {
     TimeoutResponseCommand(Source, EndDeviceTimeoutResponse),
     // its destination and options
     LeaveCommand(Source, ShortAddress, LeaveOptions),
-    // any other command: it teaches the table its sender, and no more
+    // any other command: it tells the table of its sender, and no more
     OtherCommand(Source),
     // reserved or inter-PAN
     OtherFrame,
+}
+
+impl ReceivedFrame {
+    // The sender of a data or command frame; the other frames name none.
+    #[tactic(auto, unfolding(crate::specs::Frame::sender_of))]
+    pub fn sender(self) -> Option<Source>
+        ensures { result ≡ sender_of self }
+    {
+        match self {
+            ReceivedFrame::Data(source)
+            | ReceivedFrame::RejoinResponseCommand(source, _)
+            | ReceivedFrame::TimeoutResponseCommand(source, _)
+            | ReceivedFrame::LeaveCommand(source, _, _)
+            | ReceivedFrame::OtherCommand(source) => Some(source),
+            ReceivedFrame::Undecodable | ReceivedFrame::OtherFrame => None,
+        }
+    }
 }
 
 // The header of a command frame that is sent.

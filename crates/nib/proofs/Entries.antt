@@ -14,7 +14,7 @@ use Rattle.nib.specs.Neighbors.{PARENT, NONE, entries_of}
 use Rattle.nib.specs.declared.IeeeAddress.{IeeeAddress}
 use Rattle.nib.specs.declared.NwkNeighbor.{NwkNeighbor}
 use Rattle.nib.specs.declared.NeighborTable.{NeighborTable}
-use Rattle.nib.specs.NeighborTable.{on_entries, has_address, with_ieee, with_relationship, without_potential, cleared, learnt, marked, adopted, all_cleared, potential_cleared_at, retained}
+use Rattle.nib.specs.NeighborTable.{on_entries, has_address, with_ieee, with_relationship, heard_at, without_potential, cleared, learnt, renewed, marked, adopted, all_cleared, potential_cleared_at, retained}
 
 -- two changes that agree on the entries give one table
 pub on_same : (f g : List NwkNeighbor → List NwkNeighbor) (t : NeighborTable) → f (entries_of t) ≡ g (entries_of t) → on_entries f t ≡ on_entries g t
@@ -51,6 +51,10 @@ adopted-past i es h = rw (le-ltb i (length es) h)
 pub learnt-long : (a : ℕ) (x : IeeeAddress) (es : List NwkNeighbor) → length (learnt a x es) ≡ length es
 unfolding learnt
 learnt-long a x es = ap length (change-first (has_address a) (with_ieee x) es) ∙ change-long (with_ieee x) (first_index (has_address a) es) es
+
+pub renewed-long : (a t : ℕ) (es : List NwkNeighbor) → length (renewed a t es) ≡ length es
+unfolding renewed
+renewed-long a t es = ap length (change-first (has_address a) (heard_at t) es) ∙ change-long (heard_at t) (first_index (has_address a) es) es
 
 pub marked-long : (i : ℕ) (es : List NwkNeighbor) → length (marked i es) ≡ length es
 unfolding marked

@@ -39,11 +39,16 @@ with_ieee a e = record e { extended_address = a }
 abbrev pub with_relationship : ℕ → NwkNeighbor → NwkNeighbor
 with_relationship r e = record e { relationship = r }
 
+-- last heard at a time: seconds of the caller's clock, 0 where it is not known (02, L4)
+abbrev pub heard_at : ℕ → NwkNeighbor → NwkNeighbor
+heard_at t e = record e { last_heard = t }
+
 -- no longer a potential parent
 abbrev pub without_potential : NwkNeighbor → NwkNeighbor
 without_potential e = record e { potential_parent = 0 }
 
--- without its "beacon fields" (01, "Join request and confirm"), which are those of Zigbee Table 3-64; the PAN id becomes 0xffff
+-- without its "beacon fields" (01, "Join request and confirm"), which are those of Zigbee Table 3-64; the PAN id becomes 0xffff.
+-- "no added field is a beacon field" (02, L4): when it was last heard stays
 abbrev pub cleared : NwkNeighbor → NwkNeighbor
 cleared e =
     record e {
@@ -66,10 +71,10 @@ ieee_number None = record { 0 = 0 }
 ieee_number (Some e) = e.extended_address
 
 -- a neighbour as commands are addressed to it: with the IEEE address of the first entry with its short address, and not its own
--- (`build_nwk_command_frame` of the source; Zigbee 3.4.6.2 and 3.4.11.2)
+-- (`build_nwk_command_frame` of the source; Zigbee 3.4.6.2 and 3.4.11.2). No decision sees when it was last heard
 abbrev pub seen_in : List NwkNeighbor → Option NwkNeighbor → Option NwkNeighbor
 seen_in es None = None
-seen_in es (Some e) = Some (with_ieee (ieee_number (found e.network_address.0 es)) e)
+seen_in es (Some e) = Some (with_ieee (ieee_number (found e.network_address.0 es)) (heard_at 0 e))
 
 -- Writing
 
@@ -80,6 +85,10 @@ on_entries f t = record { entries = on_front t.count f t.entries; count = t.coun
 -- the sender's IEEE address is taught to the first entry with its short address (01, "Received frame"; Zigbee 3.4.6.2)
 unfoldable pub learnt : ℕ → IeeeAddress → List NwkNeighbor → List NwkNeighbor
 learnt a ieee es = change_first (has_address a) (with_ieee ieee) es
+
+-- "a received data or command frame renews the first entry with its sender's short address" (02, L4)
+unfoldable pub renewed : ℕ → ℕ → List NwkNeighbor → List NwkNeighbor
+renewed a t es = change_first (has_address a) (heard_at t) es
 
 -- association status 0 makes the candidate PARENT; an older PARENT stays so (01, "Join request and confirm"; Zigbee 3.6.1.4.1.1)
 unfoldable pub marked : ℕ → List NwkNeighbor → List NwkNeighbor

@@ -43,6 +43,7 @@ blank =
       end_device_capacity = false;
       update_id = 0;
       pan_id = record { 0 = 0 };
+      last_heard = 0;
     }
 
 -- a list of entries as a table: unused slots hold `blank`

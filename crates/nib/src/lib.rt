@@ -189,7 +189,7 @@ pub fn device_type_at(address: ShortAddress) -> DeviceType
     DeviceType::Router
 }
 
-// A neighbour entry, in the source's field order. An IEEE address of 0 is not known.
+// A neighbour entry, in the source's field order; the last field is not the source's. An IEEE address of 0 is not known.
 #[derive(Clone, Copy, Default)]
 pub struct NwkNeighbor {
     // its IEEE address; 0 where it is not known
@@ -230,6 +230,8 @@ pub struct NwkNeighbor {
     pub update_id: u8,
     // its network's PAN id
     pub pan_id: PanId,
+    // when it was last heard, in seconds of the caller's clock; 0 where that is not known. No decision reads it
+    pub last_heard: u32,
 }
 
 // The neighbour table: the first `count` entries are in use.

@@ -1,8 +1,8 @@
 // What calls read in the neighbour table and what they write to it.
 ghost use Rattle.std.specs.Prelude.{◌≡◌, map, find, position, option_map};
-ghost use Rattle.lists.specs.Lists.{first_index, change_at};
+ghost use Rattle.lists.specs.Lists.{first_index, change_at, change_first};
 ghost use Rattle.nib.specs.Neighbors.{entries_of, entry_at, table_of};
-ghost use Rattle.nib.specs.NeighborTable.{has_address, is_parent, known_ieee, ieee_number, seen_in, ieee_of, on_entries, learnt, marked, adopted, cleared, all_cleared, potential_cleared_at, retained};
+ghost use Rattle.nib.specs.NeighborTable.{has_address, is_parent, known_ieee, ieee_number, seen_in, ieee_of, on_entries, learnt, renewed, marked, adopted, cleared, all_cleared, potential_cleared_at, retained};
 ghost use Rattle.nib.specs.declared.NwkNeighbor.{NwkNeighbor};
 ghost use Rattle.nib.specs.Private.{Changes};
 
@@ -63,7 +63,8 @@ fn ieee_number(neighbor: Option<NwkNeighbor>) -> IeeeAddress
     neighbor.map_or(IeeeAddress(0), |e| e.extended_address)
 }
 
-// The entry at an index as commands are addressed to it: with the IEEE address of the first entry with its short address.
+// The entry at an index as commands are addressed to it: with the IEEE address of the first entry with its short address, and without the time at which it was
+// last heard, which no decision is to read.
 pub fn seen_at(table: &NeighborTable, index: u8) -> Option<NwkNeighbor>
     ensures { result ≡ seen_in (entries_of table.now) (entry_at (entries_of table.now) index) }
 {
@@ -72,6 +73,7 @@ pub fn seen_at(table: &NeighborTable, index: u8) -> Option<NwkNeighbor>
     let ieee = ieee_number(first);
     Some(NwkNeighbor {
         extended_address: ieee,
+        last_heard: 0,
         ..e
     })
 }
@@ -107,6 +109,21 @@ fn change_all<F: Fn(&mut NwkNeighbor)>(mut table: NeighborTable, change: F) -> N
     table
 }
 
+// The table with the first entry of a short address changed, or as it is where none has it.
+fn change_first<F: FnOnce(&mut NwkNeighbor)>(
+    table: NeighborTable,
+    address: ShortAddress,
+    change: F,
+) -> NeighborTable
+    requires { F.IsAlwaysCallable change }
+    ensures { (f : NwkNeighbor → NwkNeighbor) → Changes (F.post change) f → result ≡ on_entries (change_first (has_address address.0) f) table }
+{
+    match address_place(table.used(), address) {
+        Some(index) => change_at(table, index as u8, change),
+        None => table,
+    }
+}
+
 // The first entry with the source's short address gets the IEEE address that the frame reports.
 pub fn learn_neighbor_ieee_address(
     table: NeighborTable,
@@ -115,10 +132,14 @@ pub fn learn_neighbor_ieee_address(
 ) -> NeighborTable
     ensures { result ≡ on_entries (learnt source.0 ieee) table }
 {
-    match address_place(table.used(), source) {
-        Some(index) => change_at(table, index as u8, |e| e.extended_address = ieee),
-        None => table,
-    }
+    change_first(table, source, |e| e.extended_address = ieee)
+}
+
+// The first entry with the source's short address was heard now.
+pub fn renew_last_heard(table: NeighborTable, source: ShortAddress, clock: u32) -> NeighborTable
+    ensures { result ≡ on_entries (renewed source.0 clock) table }
+{
+    change_first(table, source, |e| e.last_heard = clock)
 }
 
 // The entry at an index is a parent.

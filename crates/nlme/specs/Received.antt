@@ -6,7 +6,7 @@ use Rattle.nib.specs.Bits.{bit}
 use Rattle.nib.specs.declared.Nib.{Nib}
 use Rattle.nib.specs.declared.NwkNeighbor.{NwkNeighbor}
 use Rattle.nib.specs.declared.ShortAddress.{ShortAddress}
-use Rattle.nib.specs.NeighborTable.{learnt, known_ieee}
+use Rattle.nib.specs.NeighborTable.{learnt, renewed, known_ieee}
 use Rattle.management.specs.Signals.{with_rejoin_response, with_timeout_response, with_leave_indication}
 use Rattle.management.specs.declared.RejoinResponse.{RejoinResponse}
 use Rattle.management.specs.declared.EndDeviceTimeoutResponse.{EndDeviceTimeoutResponse}
@@ -30,14 +30,11 @@ unfoldable pub taught_by : Option IeeeAddress → ShortAddress → List NwkNeigh
 taught_by None a es = es
 taught_by (Some x) a es = learnt a.0 x es
 
-unfoldable pub taught : ReceivedFrame → List NwkNeighbor → List NwkNeighbor
-taught ReceivedFrame.Undecodable es = es
-taught (ReceivedFrame.Data s) es = taught_by s.ieee s.address es
-taught (ReceivedFrame.RejoinResponseCommand s r) es = taught_by s.ieee s.address es
-taught (ReceivedFrame.TimeoutResponseCommand s r) es = taught_by s.ieee s.address es
-taught (ReceivedFrame.LeaveCommand s d o) es = taught_by s.ieee s.address es
-taught (ReceivedFrame.OtherCommand s) es = taught_by s.ieee s.address es
-taught ReceivedFrame.OtherFrame es = es
+-- what a frame does to the entries at a time: it teaches, and "a received data or command frame renews the first entry with its sender's short address"
+-- (02, L4), with an IEEE address in it or not
+unfoldable pub heard_from : Option Source → ℕ → List NwkNeighbor → List NwkNeighbor
+heard_from None t es = es
+heard_from (Some s) t es = renewed s.address.0 t (taught_by s.ieee s.address es)
 
 -- "A rejoin response of status 0 sets the network address". Every response fills its slot, asked for or not
 -- (`handle_nwk_command` of the source; Zigbee 3.4.7.3.1)
@@ -121,7 +118,7 @@ leave_handled parent broadcastIeee s d o n =
     (leave_requested parent broadcastIeee s.address d o n)
     (record { nlme = neighbor_left parent s o.rejoin n; removed = Some s.address; then = Then.Over PollAnswer.PollNothing })
 
--- `process_received_nwk_frame`, after the teaching
+-- `process_received_nwk_frame`, after what it does to the entries
 unfoldable pub handled : Option NwkNeighbor → Option IeeeAddress → ReceivedFrame → Nlme → Handled
 handled parent broadcastIeee ReceivedFrame.Undecodable n = dealt_with n PollAnswer.PollUndecodable
 handled parent broadcastIeee (ReceivedFrame.Data s) n = dealt_with n PollAnswer.PollData

@@ -1,7 +1,8 @@
 // What a received frame does: teaching, responses, and leave commands.
 ghost use Rattle.std.specs.Prelude.{◌≡◌};
+ghost use Rattle.management.specs.Frame.{sender_of};
 ghost use Rattle.nib.specs.NeighborTable.{on_entries};
-ghost use Rattle.nlme.specs.Received.{taught_by, taught, rejoin_responded, timeout_signalled, stored, timeout_responded, is_from_parent, leave_indicated, neighbor_leaving, neighbor_left, accepts_leave, leave_to, announcement, dealt_with, leave_requested, leave_handled, handled, left_for, leave_announced};
+ghost use Rattle.nlme.specs.Received.{taught_by, heard_from, rejoin_responded, timeout_signalled, stored, timeout_responded, is_from_parent, leave_indicated, neighbor_leaving, neighbor_left, accepts_leave, leave_to, announcement, dealt_with, leave_requested, leave_handled, handled, left_for, leave_announced};
 
 use crate::{Nlme, Transmission};
 use management::frame::{LeaveOptions, ReceivedFrame, SentCommand, Source};
@@ -51,18 +52,16 @@ fn learn_source(table: NeighborTable, source: Source) -> NeighborTable
     }
 }
 
-// The table after a frame has taught its sender's IEEE address.
-#[tactic(auto, unfolding(crate::specs::Received::taught))]
-pub fn learn_neighbor(table: NeighborTable, frame: ReceivedFrame) -> NeighborTable
-    ensures { result ≡ on_entries (taught frame) table }
+// The table after a frame: it has taught its sender's IEEE address, and its sender was heard now.
+pub fn hear_sender(table: NeighborTable, frame: ReceivedFrame, clock: u32) -> NeighborTable
+    ensures { result ≡ on_entries (heard_from (sender_of frame) clock) table }
 {
-    match frame {
-        ReceivedFrame::Data(source)
-        | ReceivedFrame::RejoinResponseCommand(source, _)
-        | ReceivedFrame::TimeoutResponseCommand(source, _)
-        | ReceivedFrame::LeaveCommand(source, _, _)
-        | ReceivedFrame::OtherCommand(source) => learn_source(table, source),
-        ReceivedFrame::Undecodable | ReceivedFrame::OtherFrame => table,
+    match frame.sender() {
+        Some(source) => {
+            let taught = learn_source(table, source);
+            neighbor_table::renew_last_heard(taught, source.address, clock)
+        }
+        None => table,
     }
 }
 
@@ -262,7 +261,7 @@ fn handle_leave_command(
     }
 }
 
-// What a received frame does, after it has taught its sender's address. What is seen is two parameters, and no `Seen`: who calls would make it for this one
+// What a received frame does, after its sender was heard. What is seen is two parameters, and no `Seen`: who calls would make it for this one
 // call.
 #[tactic(auto, unfolding(crate::specs::Received::handled))]
 pub fn process_received_nwk_frame(

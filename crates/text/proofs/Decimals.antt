@@ -3,7 +3,7 @@ use Prim.Native.Nat.{ℕ, zero, suc, ◌+◌, ◌-◌, ◌*◌, ◌/◌, ◌%◌
 use mathlib.Core.Path.{◌≡◌, refl, sym, ap, ◌∙◌, subst}
 use mathlib.Core.Bool.{Bool, true, false, cond, not, ◌&&◌, ◌||◌, or-true}
 use mathlib.Core.List.{List, [], ◌∷◌, ◌++◌}
-use native.Mathlib.Nat.{zero-add, mod-lt, le-div_iff_mul-le, div-add-mod'}
+use native.Mathlib.Nat.{zero-add, one-mul, mod-lt, le-div_iff_mul-le, div-add-mod'}
 use native.Mathlib.Omega.{arith}
 use borrow.Author.Tests.{ltb-true, ltb-false, lt-ltb, le-leb, ne_eqb}
 use lib.Dec.{ltb, leb, eqb}
@@ -13,7 +13,7 @@ use Rattle.lists.proofs.Lists.{foldl-snoc}
 use Rattle.std.specs.Prelude.{Some}
 use Rattle.text.specs.Text.{digit_of, value_from, number_from, decimal_of, digit_byte, decimal_digits, decimal_text}
 use Rattle.text.specs.Statement.{Decimals}
-use Rattle.text.proofs.Numbers.{decimal-byte, tenth-below}
+use Rattle.text.proofs.Numbers.{decimal-byte, tenth-below, value-below}
 
 abbrev is_decimal : ℕ → Bool
 is_decimal b = ltb (digit_of b) 10
@@ -89,6 +89,15 @@ unfolding decimal_of number_from
 reads n limit f m l =
     let t : leb (value_from 10 0 f) limit ≡ true = ap (λ (v : ℕ). leb v limit) m.value ∙ le-leb n limit l in
     rw (lt-ltb 0 (length f) m.some, m.no_zero, m.digits, t) (ap Some m.value)
+
+-- a number is below the power of ten with as many zeros as it has digits, and has one at least
+pub digits-of : (n : ℕ) → n < 10 ^ 10 → (0 < length (decimal_text n)) × (n < 10 ^ length (decimal_text n))
+unfolding decimal_text
+digits-of n h =
+    let m = makes 9 n h in
+    let f = decimal_digits 10 n in
+    let p : suc 0 * 10 ^ length f ≡ 10 ^ length f = one-mul (10 ^ length f) in
+    (m.some, omega (arith, value-below 10 0 f m.digits, m.value, p))
 
 pub decimals : Decimals
 unfolding decimal_text digit_byte

@@ -120,7 +120,7 @@ decimal-short j n h = short 10 j n h
         go false r = simp length-append (omega arith)
 
 -- how large a number is that is read
-value-below : (base v : ℕ) (f : List ℕ) → every (λ b. ltb (digit_of b) base) f ≡ true → value_from base v f < suc v * base ^ length f
+pub value-below : (base v : ℕ) (f : List ℕ) → every (λ b. ltb (digit_of b) base) f ≡ true → value_from base v f < suc v * base ^ length f
 value-below base v [] h = rw (pow-zero base, mul-one (suc v)) (le_refl (suc v))
 value-below base v (b ∷ bs) h =
     let t = and_parts (ltb (digit_of b) base) (every (λ x. ltb (digit_of x) base) bs) h in

@@ -15,7 +15,7 @@ onto-first : (b : ℕ) (ps : List (List ℕ)) → get_or (onto_first b ps) 0 [] 
 onto-first b [] = refl
 onto-first b (p ∷ ps) = refl
 
-onto-long : (b : ℕ) (ps : List (List ℕ)) → 1 ≤ length ps → length (onto_first b ps) ≡ length ps
+pub onto-long : (b : ℕ) (ps : List (List ℕ)) → 1 ≤ length ps → length (onto_first b ps) ≡ length ps
 onto-long b [] h = absurd (not-suc-le-zero h)
 onto-long b (p ∷ ps) h = refl
 

@@ -3,10 +3,10 @@ use Prim.Native.Nat.{ℕ, suc, ◌+◌, ◌-◌, ◌*◌, ◌^◌, ◌<◌, ◌�
 use mathlib.Core.Path.{◌≡◌, refl, sym, ap, subst, ◌∙◌}
 use mathlib.Core.Bool.{Bool, true, false, cond, not, false≢true, ◌&&◌, ◌||◌}
 use mathlib.Core.List.{List, [], ◌∷◌}
-use native.Mathlib.Nat.{le_refl, le_trans, not-suc-le-zero, pow-zero, pow-succ', pow-le-pow_right, mul_assoc, mul-one, one-mul, mul-le-mul_right}
+use native.Mathlib.Nat.{le_refl, le_trans, not-suc-le-zero, pow-zero, pow-succ', one-le-pow, pow-le-pow_right, mul_assoc, mul-one, one-mul, mul-le-mul_right}
 use native.Mathlib.Omega.{arith}
 use borrow.Author.Tests.{leb-true, leb-false, eqb-true, eqb-false}
-use Rattle.std.specs.Prelude.{Option, Some, None, is_some}
+use Rattle.std.specs.Prelude.{Option, Some, None, is_some, unwrap_or}
 use Rattle.std.specs.List.{onto_first}
 use lib.Dec.{ltb, leb, eqb}
 use lib.ListN.{length}
@@ -77,6 +77,40 @@ decimal-size j limit (b ∷ c ∷ bs) h t =
     go true false p false r false w k u = absurd (false≢true u)
     go true false p false r true false k u = absurd (false≢true u)
     go true false p false r true true k u = fits (leb-true (value_from 10 0 (b ∷ c ∷ bs)) limit k) r (leb (suc j) n) refl
+
+-- the number 0 is written in one way
+pub zero-text : (limit : ℕ) (f : List ℕ) → is_some (decimal_of limit f) ≡ true → unwrap_or (decimal_of limit f) 0 ≡ 0 → f ≡ 48 ∷ []
+unfolding decimal_of number_from
+zero-text limit [] h z = absurd (false≢true h)
+zero-text limit (b ∷ []) h z = go (eqb b 48) refl (every (λ x. ltb (digit_of x) 10) (b ∷ [])) (leb (value_from 10 0 (b ∷ [])) limit) h z
+  where
+    v : ℕ
+    v = value_from 10 0 (b ∷ [])
+
+    go : (t : Bool) → eqb b 48 ≡ t → (d w : Bool) → is_some (cond (d && w) (Some v) None) ≡ true → unwrap_or (cond (d && w) (Some v) None) 0 ≡ 0 → b ∷ [] ≡ 48 ∷ []
+    go true e d w s u = ap (λ (c : ℕ). c ∷ []) (eqb-true b 48 e)
+    go false e true true s u = let x : ⊥ = omega (arith, u, digit-some b (eqb-false b 48 e)) in absurd x
+    go false e true false s u = absurd (false≢true s)
+    go false e false w s u = absurd (false≢true s)
+zero-text limit (b ∷ c ∷ bs) h z =
+    go (ltb 0 (length (b ∷ c ∷ bs))) (leb (length (b ∷ c ∷ bs)) 1) refl (eqb b 48) refl (every (λ x. ltb (digit_of x) 10) (b ∷ c ∷ bs)) (leb (value_from 10 0 (b ∷ c ∷ bs)) limit) h z
+  where
+    v : ℕ
+    v = value_from 10 0 (b ∷ c ∷ bs)
+
+    none : eqb b 48 ≡ false → v ≡ 0 → ⊥
+    none e w =
+        let d : 1 ≤ 0 * 10 + digit_of b = omega (arith, digit-some b (eqb-false b 48 e)) in
+        omega (arith, w, d, value-least 10 (0 * 10 + digit_of b) (c ∷ bs), one-le-pow (length (c ∷ bs)) 10 (omega arith), mul-le-mul_right (10 ^ length (c ∷ bs)) d)
+
+    go : (y l : Bool) → leb (suc (suc (length bs))) 1 ≡ l → (q : Bool) → eqb b 48 ≡ q → (e w : Bool)
+        → is_some (cond (y && (l || not q)) (cond (e && w) (Some v) None) None) ≡ true → unwrap_or (cond (y && (l || not q)) (cond (e && w) (Some v) None) None) 0 ≡ 0 → b ∷ c ∷ bs ≡ 48 ∷ []
+    go y true p q r e w s u = let o = leb-true (suc (suc (length bs))) 1 p in let x : ⊥ = omega arith in absurd x
+    go true false p true r e w s u = absurd (false≢true s)
+    go false false p q r e w s u = absurd (false≢true s)
+    go true false p false r false w s u = absurd (false≢true s)
+    go true false p false r true false s u = absurd (false≢true s)
+    go true false p false r true true s u = absurd (none r u)
 
 -- the parts of a text, with a byte after each
 abbrev pub total : List (List ℕ) → ℕ

@@ -5,6 +5,7 @@ ghost use Rattle.std.specs.Prelude.{◌≡◌, [], ◌+◌, ◌-◌, ◌^◌, �
 ghost use Rattle.std.proofs.lemmas.List.Edits.{sets};
 ghost use Rattle.text.specs.Text.{parts, fields, digit_of, number_from, decimal_of, hex_of, digit_byte, decimal_text, hex_text, right_text};
 
+pub mod form;
 pub mod writer;
 
 // Part k of a text that is parted by `sep`, from 0; empty where there is no such part. Text and place are two parameters: the place is a number in the call.

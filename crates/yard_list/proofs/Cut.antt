@@ -1,6 +1,6 @@
 -- The first 1,024 bytes of an input are enough: its yard list is that of the whole. A good line has at most 55 bytes with its line feed, and there are at
 -- most 17. Assumes nothing.
-use Prim.Native.Nat.{ℕ, zero, suc, ◌+◌, ◌-◌, ◌*◌, ◌^◌, ◌<◌, ◌≤◌, zero-le, min}
+use Prim.Native.Nat.{ℕ, zero, suc, ◌+◌, ◌-◌, ◌*◌, ◌<◌, ◌≤◌, min}
 use mathlib.Core.Path.{◌≡◌, refl, sym, ap, ◌∙◌}
 use mathlib.Core.Bool.{Bool, true, false, cond, false≢true, ◌&&◌}
 use mathlib.Core.List.{List, [], ◌∷◌}
@@ -10,64 +10,27 @@ use borrow.Author.Tests.{ltb-true, ltb-false, leb-true, leb-false, eqb-true}
 use lib.Dec.{ltb, leb, eqb}
 use lib.ListN.{length, take, drop, get_or, length-drop}
 use lib.Seq.{take_all, take-take, take-add, drop_at, length-take-le}
-use Rattle.lists.specs.Lists.{first_index, All}
+use Rattle.lists.specs.Lists.{first_index}
 use Rattle.lists.proofs.First.{first-le}
-use Rattle.text.specs.Text.{bytes, parts, fields}
+use Rattle.text.specs.Text.{parts, fields, decimal_text}
 use Rattle.std.proofs.lemmas.Bool.{and_parts}
 use Rattle.text.proofs.Parts.{parts-some, parts_first, parts-only}
-use Rattle.text.proofs.Sizes.{same_size, hex-size, decimal-size, total, total-parts}
-use Rattle.yard_list.specs.declared.Form.{Form}
-use Rattle.yard_list.specs.declared.Form.TheVariants.{RequestWord, EntryWord, Hex, Decimal}
-use Rattle.yard_list.specs.YardList.{has_form, request_forms, entry_forms, have_forms, is_good, good_from, list_text, bad_text, ended_lines, unended, yard_text}
+use Rattle.text.specs.Form.{have_forms}
+use Rattle.text.proofs.Sizes.{total, total-parts}
+use Rattle.text.proofs.Forms.{line-size}
+use Rattle.yard_list.specs.YardList.{request_forms, entry_forms, is_good, good_from, list_text, bad_text, ended_lines, unended, yard_text}
 use Rattle.yard_list.proofs.Lines.{good_few}
 
--- how long a field of a form is at most, for decimal numbers below 1,000
-abbrev most : Form → ℕ
-most RequestWord = 7
-most EntryWord = 1
-most (Hex k) = k
-most (Decimal max) = cond (ltb max 10) 1 3
-
-abbrev Narrow : Form → Type 0
-Narrow RequestWord = Unit {0}
-Narrow EntryWord = Unit {0}
-Narrow (Hex k) = Unit {0}
-Narrow (Decimal max) = max < 1000
-
-fit-size : (m : Form) (f : List ℕ) → Narrow m → has_form m f ≡ true → length f ≤ most m
-fit-size RequestWord f n h = omega (arith, same_size f (bytes "request") h)
-fit-size EntryWord f n h = omega (arith, same_size f (bytes "n") h)
-fit-size (Hex k) f n h = omega (arith, hex-size k f h)
-fit-size (Decimal max) f n h = go (ltb max 10) refl
-  where
-    go : (b : Bool) → ltb max 10 ≡ b → length f ≤ cond b 1 3
-    go true e = let p : 10 ^ 1 ≡ 10 = refl in decimal-size 0 max f (omega (arith, p, ltb-true max 10 e)) h
-    go false e = let p : 10 ^ 3 ≡ 1000 = refl in decimal-size 2 max f (omega (arith, p)) h
-
-abbrev widths : List Form → ℕ
-widths [] = 0
-widths (m ∷ ms) = suc (most m) + widths ms
-
-line-size : (ms : List Form) (fs : List (List ℕ)) → All Narrow ms → have_forms ms fs ≡ true → total fs ≤ widths ms
-line-size [] [] n h = zero-le
-line-size [] (f ∷ fs) n h = absurd (false≢true h)
-line-size (m ∷ ms) [] n h = zero-le
-line-size (m ∷ ms) (f ∷ fs) n h =
-    let t = and_parts (has_form m f) (have_forms ms fs) h in
-    let a = fit-size m f n.0 t.0 in
-    let b = line-size ms fs n.1 t.1 in
-    omega arith
-
 good-size : (k : ℕ) (l : List ℕ) → is_good k l ≡ true → length l ≤ 54
-unfolding is_good
+unfolding is_good decimal_text
 good-size k l h = go (eqb k 0) (leb k 16) h
   where
     go : (b d : Bool) → cond b (have_forms request_forms (fields l)) (d && have_forms entry_forms (fields l)) ≡ true → length l ≤ 54
     go true d t =
-        let s : total (fields l) ≤ 33 = line-size request_forms (fields l) (tt, (tt, (omega arith, (omega arith, (omega arith, tt))))) t in
+        let s : total (fields l) ≤ 33 = line-size request_forms (fields l) refl t in
         omega (arith, total-parts 9 l)
     go false true t =
-        let s : total (fields l) ≤ 55 = line-size entry_forms (fields l) (tt, (tt, (tt, (omega arith, (omega arith, (omega arith, (omega arith, (omega arith, (omega arith, (omega arith, (omega arith, (tt, tt)))))))))))) t in
+        let s : total (fields l) ≤ 55 = line-size entry_forms (fields l) refl t in
         omega (arith, total-parts 9 l)
     go false false t = absurd (false≢true t)
 

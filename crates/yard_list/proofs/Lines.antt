@@ -1,5 +1,5 @@
 -- Laws of the lines that are read. Assumes nothing.
-use Prim.Native.Nat.{ℕ, suc, ◌+◌, ◌<◌, ◌≤◌}
+use Prim.Native.Nat.{ℕ, suc, ◌+◌, ◌≤◌}
 use mathlib.Core.Path.{◌≡◌, refl, sym, ap, ◌∙◌}
 use mathlib.Core.Bool.{Bool, true, false, cond, false≢true, ◌&&◌}
 use mathlib.Core.List.{List, [], ◌∷◌, ◌++◌, append_assoc, append-nil}
@@ -7,36 +7,18 @@ use native.Mathlib.Numerals.{unary_clauses}
 use native.Mathlib.Omega.{arith}
 use borrow.Author.Tests.{eqb-true, leb-true}
 use lib.Dec.{eqb, leb}
-use lib.ListN.{length, take, get_or, length-append}
-use Rattle.std.specs.List.{list_all, zip, prefix_len, enumerate_from, fold}
+use lib.ListN.{length, take, length-append}
+use Rattle.std.specs.List.{prefix_len, enumerate_from, fold}
 use Rattle.std.proofs.lemmas.List.Folds.{length-prefix_len}
 use Rattle.nib.specs.Neighbors.{table_of, pushed}
 use Rattle.nib.specs.declared.NwkNeighbor.{NwkNeighbor}
 use Rattle.nib.specs.declared.NeighborTable.{NeighborTable}
 use Rattle.nib.proofs.Tables.{push-of}
+use Rattle.neighbor_line.specs.NeighborLine.{entry_read}
 use Rattle.text.specs.Text.{parts, fields}
-use Rattle.text.proofs.Numbers.{hex-below, decimal-most}
 use Rattle.text.proofs.Parts.{parts-some}
-use Rattle.yard_list.specs.declared.Form.{Form}
-use Rattle.yard_list.specs.YardList.{has_form, request_forms, entry_forms, have_forms, is_good, good_from, hex_at, byte_at, entry_read, entries_in}
-
--- other than as many fields as forms do not fit
-pub fit_long : (ms : List Form) (fs : List (List ℕ)) → (length fs ≡ length ms → ⊥) → have_forms ms fs ≡ false
-fit_long [] [] h = absurd (h refl)
-fit_long [] (f ∷ fs) h = refl
-fit_long (m ∷ ms) [] h = refl
-fit_long (m ∷ ms) (f ∷ fs) h = rw (fit_long ms fs (λ e. h (ap suc e))) (neither (has_form m f))
-  where
-    neither : (b : Bool) → (b && false) ≡ false
-    neither true = refl
-    neither false = refl
-
--- where there are as many, each field beside its form says it
-pub fit_each : (ms : List Form) (fs : List (List ℕ)) → length fs ≡ length ms → list_all (λ p. has_form p.1 p.0) (zip fs ms) ≡ have_forms ms fs
-fit_each [] [] h = refl
-fit_each [] (f ∷ fs) h = let x : ⊥ = omega (arith, h) in absurd x
-fit_each (m ∷ ms) [] h = let x : ⊥ = omega (arith, h) in absurd x
-fit_each (m ∷ ms) (f ∷ fs) h = ap (λ (b : Bool). has_form m f && b) (fit_each ms fs (omega (arith, h)))
+use Rattle.text.specs.Form.{have_forms}
+use Rattle.yard_list.specs.YardList.{request_forms, entry_forms, is_good, good_from, entries_in}
 
 -- how many lines are good, in std's words
 pub good-prefix : (k : ℕ) (ls : List (List ℕ)) → length (take (prefix_len (λ p. is_good p.0 p.1) (enumerate_from k ls)) (enumerate_from k ls)) ≡ good_from k ls
@@ -47,13 +29,6 @@ good-prefix k ls = length-prefix_len (λ p. is_good p.0 p.1) (enumerate_from k l
     counted k (l ∷ ls) =
         let e : 1 + prefix_len (λ p. is_good p.0 p.1) (enumerate_from (suc k) ls) ≡ suc (good_from (suc k) ls) = omega (arith, counted (suc k) ls) in
         simp unary_clauses (ap (λ (n : ℕ). cond (is_good k l) n 0) e)
-
--- how great the numbers of fields are at most
-pub byte_most : (fs : List (List ℕ)) (k : ℕ) → byte_at fs k ≤ 255
-byte_most fs k = decimal-most 255 (get_or fs k [])
-
-pub short_below : (fs : List (List ℕ)) (k : ℕ) → hex_at 4 fs k < 65536
-short_below fs k = hex-below 4 (get_or fs k [])
 
 good-within : (k : ℕ) (l : List ℕ) → is_good k l ≡ true → k ≤ 16
 unfolding is_good

@@ -20,11 +20,14 @@ use Rattle.candidates.proofs.Listed.{items-of}
 use Rattle.yard_list.specs.Private.{InTable}
 use Rattle.nib.specs.declared.NwkNeighbor.{NwkNeighbor}
 use Rattle.candidates.proofs.Laws.{few, below}
+use Rattle.neighbor_line.specs.NeighborLine.{entry_read}
 use Rattle.text.specs.Text.{parts, fields, decimal_text}
+use Rattle.text.specs.Form.{hex_at, decimal_at, flag_at}
+use Rattle.text.proofs.Forms.{at_most}
 use Rattle.std.proofs.lemmas.Bool.{and_parts}
 use Rattle.text.proofs.Numbers.{decimal-long, decimal-short}
-use Rattle.yard_list.specs.YardList.{good_from, hex_at, byte_at, flag_at, entry_read, entries_in, request_candidates, row_of, rows_from, header, list_text, bad_text, ended_lines, unended, yard_text}
-use Rattle.yard_list.proofs.Lines.{good_few, byte_most}
+use Rattle.yard_list.specs.YardList.{good_from, entries_in, request_candidates, row_of, rows_from, header, list_text, bad_text, ended_lines, unended, yard_text}
+use Rattle.yard_list.proofs.Lines.{good_few}
 
 module _ (es : List NwkNeighbor) where
   -- one candidate more at the end
@@ -54,8 +57,8 @@ in_table n ls fs h =
     let es = entries_of (table_of (entries_in ns)) in
     let l : length es ≤ 16 = omega (arith, ap length (entries-of (entries_in ns)), length-map ns (λ l. entry_read (fields l)), length-take n ls) in
     record {
-      few = omega (arith, few (byte_at fs 4) (flag_at fs 2) (flag_at fs 3) (hex_at 16 fs 1) es);
-      within = subst (All (λ i. i < length es)) (sym (items-of (list_of (request_candidates fs es)) (request_candidates fs es) refl)) (below (byte_at fs 4) (flag_at fs 2) (flag_at fs 3) (hex_at 16 fs 1) es);
+      few = omega (arith, few (decimal_at 255 fs 4) (flag_at fs 2) (flag_at fs 3) (hex_at 16 fs 1) es);
+      within = subst (All (λ i. i < length es)) (sym (items-of (list_of (request_candidates fs es)) (request_candidates fs es) refl)) (below (decimal_at 255 fs 4) (flag_at fs 2) (flag_at fs 3) (hex_at 16 fs 1) es);
     }
 
 -- the text of good lines: the header, and the candidates of line 1 among the entries of the others
@@ -74,7 +77,7 @@ list-is (suc n) (x ∷ xs) l t c h k o p q =
 small_at : (ns : List (List ℕ)) (i : ℕ) → ((get_or (entries_in ns) i blank).logical_channel ≤ 255) × ((get_or (entries_in ns) i blank).depth ≤ 255)
 unfolding entry_read
 small_at [] i = (zero-le, zero-le)
-small_at (l ∷ ls) zero = (byte_most (fields l) 3, byte_most (fields l) 4)
+small_at (l ∷ ls) zero = (at_most 255 (fields l) 3, at_most 255 (fields l) 4)
 small_at (l ∷ ls) (suc i) = small_at ls i
 
 three : (n : ℕ) → n ≤ 255 → length (decimal_text n) ≤ 3
@@ -97,8 +100,8 @@ list-short (l ∷ ns) h =
     let fs = fields l in
     let es = entries_in ns in
     let n : length es ≡ length ns = length-map ns (λ x. entry_read (fields x)) in
-    let k = few (byte_at fs 4) (flag_at fs 2) (flag_at fs 3) (hex_at 16 fs 1) es in
-    let r = rows_short ns 1 (request_candidates fs es) (below (byte_at fs 4) (flag_at fs 2) (flag_at fs 3) (hex_at 16 fs 1) es) (omega arith) (omega (arith, k)) in
+    let k = few (decimal_at 255 fs 4) (flag_at fs 2) (flag_at fs 3) (hex_at 16 fs 1) es in
+    let r = rows_short ns 1 (request_candidates fs es) (below (decimal_at 255 fs 4) (flag_at fs 2) (flag_at fs 3) (hex_at 16 fs 1) es) (omega arith) (omega (arith, k)) in
     omega (arith, length-append header (rows_from es 1 (request_candidates fs es)), r, k)
 
 pub bad-short : (n : ℕ) → length (bad_text n) ≤ 512

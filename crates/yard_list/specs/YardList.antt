@@ -1,34 +1,22 @@
 -- The yard list (01, "The yard list"): what is printed for what is read, each as the list of its bytes. 9 is the tab, 10 the line feed.
-use Rattle.std.specs.Prelude.{ℕ, suc, ◌+◌, ◌-◌, Bool, true, false, cond, ◌&&◌, List, [], ◌∷◌, ◌++◌, map, eqb, ltb, leb, length, take, get_or, is_some, unwrap_or}
-use Rattle.nib.specs.Neighbors.{NONE, device_type_at, blank}
+use Rattle.std.specs.Prelude.{ℕ, suc, ◌+◌, ◌-◌, Bool, cond, ◌&&◌, List, [], ◌∷◌, ◌++◌, map, eqb, ltb, leb, length, take, get_or}
+use Rattle.nib.specs.Neighbors.{blank}
 use Rattle.nib.specs.declared.NwkNeighbor.{NwkNeighbor}
 use Rattle.candidates.specs.Candidates.{candidates}
-use Rattle.text.specs.Text.{bytes, parts, fields, same_text, decimal_of, hex_of, decimal_text, hex_text}
-use Rattle.yard_list.specs.declared.Form.{Form}
-use Rattle.yard_list.specs.declared.Form.TheVariants.{RequestWord, EntryWord, Hex, Decimal}
-
--- a field has a form: the word `request`, the word `n`, so many hexadecimal digits, or a decimal number of at most so much
-abbrev pub has_form : Form → List ℕ → Bool
-has_form RequestWord f = same_text f (bytes "request")
-has_form EntryWord f = same_text f (bytes "n")
-has_form (Hex digits) f = is_some (hex_of digits f)
-has_form (Decimal limit) f = is_some (decimal_of limit f)
+use Rattle.text.specs.Text.{bytes, parts, fields, decimal_text, hex_text}
+use Rattle.text.specs.declared.form.Form.{Form}
+use Rattle.text.specs.declared.form.Form.TheVariants.{Word, Hex, Decimal}
+use Rattle.neighbor_line.specs.NeighborLine.{entry_read}
+use Rattle.text.specs.Form.{have_forms, hex_at, decimal_at, flag_at}
 
 -- line 1: `request`, extended PAN id, role, permit wanted, stack profile
-abbrev pub request_forms : List Form
-request_forms = RequestWord ∷ Hex 16 ∷ Decimal 1 ∷ Decimal 1 ∷ Decimal 255 ∷ []
+abbrev pub request_forms : List (Form 7)
+request_forms = Word (bytes "request") ∷ Hex 16 ∷ Decimal 1 ∷ Decimal 1 ∷ Decimal 255 ∷ []
 
 -- the lines after it: `n`, address, extended PAN id, channel, depth, permit, router capacity, end device capacity, LQI, potential parent, update id, PAN id
-abbrev pub entry_forms : List Form
+abbrev pub entry_forms : List (Form 1)
 entry_forms =
-    EntryWord ∷ Hex 4 ∷ Hex 16 ∷ Decimal 255 ∷ Decimal 255 ∷ Decimal 1 ∷ Decimal 1 ∷ Decimal 1 ∷ Decimal 255 ∷ Decimal 255 ∷ Decimal 255 ∷ Hex 4 ∷ []
-
--- as many fields as forms, each of its form
-abbrev pub have_forms : List Form → List (List ℕ) → Bool
-have_forms [] [] = true
-have_forms [] (f ∷ fs) = false
-have_forms (m ∷ ms) [] = false
-have_forms (m ∷ ms) (f ∷ fs) = has_form m f && have_forms ms fs
+    Word (bytes "n") ∷ Hex 4 ∷ Hex 16 ∷ Decimal 255 ∷ Decimal 255 ∷ Decimal 1 ∷ Decimal 1 ∷ Decimal 1 ∷ Decimal 255 ∷ Decimal 255 ∷ Decimal 255 ∷ Hex 4 ∷ []
 
 -- a line that is neither bad nor surplus; k lines stand before it. At most 16 follow the first
 unfoldable pub is_good : ℕ → List ℕ → Bool
@@ -39,48 +27,13 @@ abbrev pub good_from : ℕ → List (List ℕ) → ℕ
 good_from k [] = 0
 good_from k (l ∷ ls) = cond (is_good k l) (suc (good_from (suc k) ls)) 0
 
--- the numbers in the fields of a good line
-abbrev pub hex_at : ℕ → List (List ℕ) → ℕ → ℕ
-hex_at digits fs k = unwrap_or (hex_of digits (get_or fs k [])) 0
-
-abbrev pub byte_at : List (List ℕ) → ℕ → ℕ
-byte_at fs k = unwrap_or (decimal_of 255 (get_or fs k [])) 0
-
-abbrev pub flag_at : List (List ℕ) → ℕ → Bool
-flag_at fs k = eqb (unwrap_or (decimal_of 1 (get_or fs k [])) 0) 1
-
--- the neighbour entry of a line's fields: IEEE address 0 and relationship NONE (3), as a scan makes it (01, "Neighbour entry")
-unfoldable pub entry_read : List (List ℕ) → NwkNeighbor
-entry_read fs =
-    record {
-      extended_address = record { 0 = 0 };
-      network_address = record { 0 = hex_at 4 fs 1 };
-      device_type = device_type_at (hex_at 4 fs 1);
-      rx_on_when_idle = false;
-      end_device_configuration = 0;
-      relationship = NONE;
-      lqi = byte_at fs 8;
-      outgoing_cost = 0;
-      age = 0;
-      keepalive_received = false;
-      extended_pan_id = record { 0 = hex_at 16 fs 2 };
-      logical_channel = byte_at fs 3;
-      depth = byte_at fs 4;
-      permit_joining = flag_at fs 5;
-      potential_parent = byte_at fs 9;
-      router_capacity = flag_at fs 6;
-      end_device_capacity = flag_at fs 7;
-      update_id = byte_at fs 10;
-      pan_id = record { 0 = hex_at 4 fs 11 };
-    }
-
 -- the entries of lines
 abbrev pub entries_in : List (List ℕ) → List NwkNeighbor
 entries_in ls = map (λ l. entry_read (fields l)) ls
 
 -- the candidates of the request whose fields are fs: role 1 is a router
 unfoldable pub request_candidates : List (List ℕ) → List NwkNeighbor → List ℕ
-request_candidates fs es = candidates (byte_at fs 4) (flag_at fs 2) (flag_at fs 3) (hex_at 16 fs 1) es
+request_candidates fs es = candidates (decimal_at 255 fs 4) (flag_at fs 2) (flag_at fs 3) (hex_at 16 fs 1) es
 
 -- a column of a printed line, with the tab or line feed after it
 abbrev pub column : List ℕ → ℕ → List ℕ

@@ -2,17 +2,17 @@
 #![tactic(auto)]
 
 ghost use Rattle.std.specs.Prelude.{◌≡◌, [], ◌+◌, ◌-◌, ◌≤◌, ◌<◌, eqb, length, take, drop, get_or};
-ghost use Rattle.std.specs.List.{list_all, zip};
 ghost use Rattle.lists.specs.Lists.{over};
 ghost use Rattle.nib.specs.Neighbors.{entries_of, table_of};
 ghost use Rattle.candidates.specs.Candidates.{list_of, items_of};
 ghost use Rattle.text.specs.Text.{parts, fields, decimal_text, hex_text};
 ghost use Rattle.text.specs.Writer.{with_text};
 ghost use Rattle.yard_list.specs.Private.{InTable};
-ghost use Rattle.yard_list.specs.YardList.{has_form, have_forms, is_good, good_from, hex_at, byte_at, flag_at, entry_read, entries_in, request_candidates, column, row_of, rows_from, list_text, bad_text, yard_text};
+ghost use Rattle.yard_list.specs.YardList.{is_good, good_from, entries_in, request_candidates, column, row_of, rows_from, list_text, bad_text, yard_text};
 
 use candidates::CandidateList;
-use nib::{ExtendedPanId, MAX_NEIGBOUR_TABLE, NeighborTable, NwkNeighbor, PanId, ShortAddress};
+use nib::{ExtendedPanId, MAX_NEIGBOUR_TABLE, NeighborTable, NwkNeighbor};
+use text::form::{self, Form};
 use text::writer::Writer;
 
 // How many entries a list has at most: as many as a neighbour table.
@@ -21,18 +21,9 @@ const MAX_ENTRIES: usize = MAX_NEIGBOUR_TABLE as usize;
 // The bytes of the buffer that a list is written into: a list has at most 338, of a header and 16 lines, and so there is no buffer that is too short.
 pub const LIST_BYTES: usize = 512;
 
-// What a field holds: a line's first word, a hexadecimal number of so many digits, or a decimal number of at most so much.
-#[derive(Clone, Copy)]
-enum Form {
-    RequestWord,
-    EntryWord,
-    Hex(usize),
-    Decimal(u32),
-}
-
 // The forms of the fields of line 1.
-const REQUEST: [Form; 5] = [
-    Form::RequestWord,
+const REQUEST: [Form<7>; 5] = [
+    Form::Word(*b"request"),
     Form::Hex(16), // extended PAN id
     Form::Decimal(1), // role
     Form::Decimal(1), // permit wanted
@@ -40,8 +31,8 @@ const REQUEST: [Form; 5] = [
 ];
 
 // The forms of the fields of a later line.
-const ENTRY: [Form; 12] = [
-    Form::EntryWord,
+const ENTRY: [Form<1>; 12] = [
+    Form::Word(*b"n"),
     Form::Hex(4), // address
     Form::Hex(16), // extended PAN id
     Form::Decimal(255), // channel
@@ -55,47 +46,18 @@ const ENTRY: [Form; 12] = [
     Form::Hex(4), // PAN id
 ];
 
-// Whether a field has a form.
-fn has_form(f: &[u8], form: Form) -> bool
-    ensures { result ≡ has_form form f.now }
-{
-    match form {
-        Form::RequestWord => f == b"request".as_slice(),
-        Form::EntryWord => f == b"n".as_slice(),
-        Form::Hex(digits) => text::hex(f, digits).is_some(),
-        Form::Decimal(limit) => text::decimal(f, limit).is_some(),
-    }
-}
-
-// Whether each field of a line has the form at its place, as far as both go.
-fn fields_fit(line: &[u8], forms: &[Form]) -> bool
-    ensures { result ≡ list_all (λ p. has_form p.1 p.0) (zip (fields line.now) forms.now) }
-{
-    line.split(|b| *b == b'\t')
-        .zip(forms)
-        .all(|(f, form)| has_form(f, *form))
-}
-
-// Whether a line has as many fields as there are forms, each of its form.
-#[tactic(auto, using(crate::proofs::Lines::fit_long))]
-fn is_line(line: &[u8], forms: &[Form]) -> bool
-    ensures { result ≡ have_forms forms.now (fields line.now) }
-{
-    text::part_count(line, b'\t') == forms.len() && fields_fit(line, forms)
-}
-
 // Whether a line with k lines before it is good.
 #[tactic(auto, unfolding(crate::specs::YardList::is_good))]
 fn is_good(line: &[u8], k: usize) -> bool
     ensures { result ≡ is_good k line.now }
 {
     if k == 0 {
-        return is_line(line, &REQUEST);
+        return form::is_line(line, &REQUEST);
     }
     if MAX_ENTRIES < k {
         return false;
     }
-    is_line(line, &ENTRY)
+    form::is_line(line, &ENTRY)
 }
 
 // How many of the first `ended` lines are good, up to the first that is not. `input` and `ended` go together here and in two more, and no struct: `ended` is
@@ -111,71 +73,6 @@ fn good_lines(input: &[u8], ended: usize) -> usize
         .count()
 }
 
-// The hexadecimal number in field k. Line and place are two parameters here and below: the place is a number that stands in the call.
-fn hex_at(line: &[u8], digits: usize, k: usize) -> u64
-    ensures { result ≡ hex_at digits (fields line.now) k }
-{
-    text::hex(text::field(line, k), digits).unwrap_or(0)
-}
-
-// The number of 16 bits in field k.
-#[tactic(auto, using(crate::proofs::Lines::short_below))]
-fn short_at(line: &[u8], k: usize) -> u16
-    ensures { result ≡ hex_at 4 (fields line.now) k }
-{
-    hex_at(line, 4, k) as u16
-}
-
-// The decimal number in field k.
-#[tactic(auto, using(crate::proofs::Lines::byte_most))]
-fn byte_at(line: &[u8], k: usize) -> u8
-    ensures { result ≡ byte_at (fields line.now) k }
-{
-    text::decimal(text::field(line, k), 255).unwrap_or(0) as u8
-}
-
-// Whether the number in field k is 1.
-fn flag_at(line: &[u8], k: usize) -> bool
-    ensures { result ≡ flag_at (fields line.now) k }
-{
-    text::decimal(text::field(line, k), 1).unwrap_or(0) == 1
-}
-
-// The neighbour entry of a line.
-#[tactic(auto, unfolding(crate::specs::YardList::entry_read))]
-fn read_entry(line: &[u8]) -> NwkNeighbor
-    ensures { result ≡ entry_read (fields line.now) }
-{
-    let address = short_at(line, 1);
-    let device_type = nib::device_type_at(ShortAddress(address));
-    let extended = hex_at(line, 16, 2);
-    let logical_channel = byte_at(line, 3);
-    let depth = byte_at(line, 4);
-    let permit_joining = flag_at(line, 5);
-    let router_capacity = flag_at(line, 6);
-    let end_device_capacity = flag_at(line, 7);
-    let lqi = byte_at(line, 8);
-    let potential_parent = byte_at(line, 9);
-    let update_id = byte_at(line, 10);
-    let pan = short_at(line, 11);
-    NwkNeighbor {
-        network_address: ShortAddress(address),
-        device_type,
-        relationship: nib::relationship::NONE,
-        lqi,
-        extended_pan_id: ExtendedPanId(extended),
-        logical_channel,
-        depth,
-        permit_joining,
-        potential_parent,
-        router_capacity,
-        end_device_capacity,
-        update_id,
-        pan_id: PanId(pan),
-        ..NwkNeighbor::default()
-    }
-}
-
 // The table of the entries of `count` lines after the first.
 fn read_table(input: &[u8], count: usize) -> NeighborTable
     requires { count ≤ MAX_NEIGBOUR_TABLE }
@@ -186,7 +83,7 @@ fn read_table(input: &[u8], count: usize) -> NeighborTable
         .skip(1)
         .take(count)
         .fold(NeighborTable::new(), |table, line| {
-            table.push(read_entry(line))
+            table.push(neighbor_line::read_entry(line))
         })
 }
 
@@ -195,10 +92,10 @@ fn read_table(input: &[u8], count: usize) -> NeighborTable
 fn request_candidates(line: &[u8], table: NeighborTable) -> CandidateList
     ensures { result ≡ list_of (request_candidates (fields line.now) (entries_of table)) }
 {
-    let stack_profile = byte_at(line, 4);
-    let extended_pan_id = ExtendedPanId(hex_at(line, 16, 1));
-    let join_as_router = flag_at(line, 2);
-    let require_permit_joining = flag_at(line, 3);
+    let stack_profile = form::byte_at(line, 4);
+    let extended_pan_id = ExtendedPanId(form::hex_at(line, 16, 1));
+    let join_as_router = form::flag_at(line, 2);
+    let require_permit_joining = form::flag_at(line, 3);
     candidates::select_candidates(
         table,
         stack_profile,

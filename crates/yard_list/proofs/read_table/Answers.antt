@@ -11,8 +11,8 @@ use Rattle.std.proofs.lemmas.Iterator.Splits.{YieldsList-from_slice_split}
 use Rattle.std.specs.List.{fold}
 use Rattle.nib.specs.Neighbors.{pushed}
 use Rattle.nib.specs.declared.NeighborTable.{NeighborTable}
+use Rattle.neighbor_line.specs.NeighborLine.{entry_read}
 use Rattle.text.specs.Text.{parts, fields}
-use Rattle.yard_list.specs.YardList.{entry_read}
 use Rattle.yard_list.proofs.Lines.{table-of}
 use Rattle.yard_list.proofs.read_table.Goals as goal
 

@@ -1,0 +1,4 @@
+-- The laws of `neighbor_line`.
+pub mod Moved
+pub mod Buffers
+pub mod Moves

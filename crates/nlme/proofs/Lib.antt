@@ -1,0 +1,2 @@
+-- The laws of `nlme`.
+pub mod Taught
