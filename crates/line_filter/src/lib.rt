@@ -25,8 +25,7 @@ pub trait LineFilter {
         ensures { finishes self.old rest.now result self.new };
 }
 
-// Answers the lines that are ended in the next bytes of the input. What is said is how many bytes of a line that is not ended are kept; nothing where the run is
-// over.
+// Answers the lines that are ended in the next bytes of the input, and says how many bytes are kept of one that is not ended; nothing where the run is over.
 fn answer_piece<F: LineFilter>(
     filter: &mut F,
     line: &mut [u8],
