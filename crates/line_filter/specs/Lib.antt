@@ -1,0 +1,3 @@
+-- The definitions of `line_filter`.
+pub mod Runs
+pub mod Private

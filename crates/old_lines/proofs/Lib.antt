@@ -1,0 +1,2 @@
+-- The laws of `old_lines`.
+mod Lines

@@ -1,0 +1,3 @@
+-- The definitions of `old_lines`.
+pub mod OldLines
+pub mod Private
