@@ -9,7 +9,7 @@ import sys
 
 ROOT = os.path.dirname(os.path.dirname(os.path.abspath(__file__)))
 PATH = re.compile(r'`((?:docs/|compare/)?[\w-]+(?:/[\w.-]+)+)(?:: ([^`]+))?`')
-WORDS = 'pub|abbrev|unfoldable|data|record|fn|struct|enum|const|mod'
+WORDS = 'pub|abbrev|unfoldable|data|record|fn|struct|enum|trait|const|mod'
 
 
 def declares(text, name):

@@ -25,7 +25,8 @@
 // answer is `Polled(PollData)`; in a rejoin, a negotiation or a keepalive the source drops it, and no answer speaks of it.
 //
 // `scan_over` and `reception_over` take the caller's clock too, in seconds: an entry says when its neighbour was last heard. The time is that at which the
-// outcome is handed back, and not that of the start. 0 is read as not known. The clock may go back: no decision reads it.
+// outcome is handed back, and not that of the start. 0 is read as not known. The clock may go back: no decision reads it. An owner reads the times in `table`,
+// where `neighbor_table::parent_index` gives the parent's place.
 //
 // The indications of a leave and of a lost parent stand in slots, one each, and a newer one takes the place of an older. So an owner takes both after each
 // outcome of a transmission, a poll or a receive, at the end of a keepalive, and after each tick that has expired.

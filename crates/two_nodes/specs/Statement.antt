@@ -67,8 +67,8 @@ pub data AlikeScan (n : ℕ) : Result PanDescriptorList MacError → Result PanD
   above-16 : {l m : PanDescriptorList} → l.count ≤ 27 → m.count ≤ 27
       → 16 < short_addressed (descriptors_of l) → 16 < short_addressed (descriptors_of m) → AlikeScan n (Ok l) (Ok m)
 
--- two lists of calls that are equal but for what the scans heard. "Two nodes compared as to foreign beacons have equal clocks" (02, L4): the same at the same call.
--- When an entry was last heard is not shown, and not compared: it differs (`times-with`, proofs/Examples.antt)
+-- two lists of calls that are equal but for what the scans heard. "Two nodes compared as to foreign beacons have equal clocks" (02, L4): the same at the same
+-- call. When an entry was last heard is not shown, and not compared: it differs (`times-with`, proofs/Examples.antt)
 pub data AlikeCall (n : ℕ) : Call → Call → Type 0 where
   same : (c : Call) → AlikeCall n c c
   scans : {o p : Result PanDescriptorList MacError} {t : ℕ} → AlikeScan n o p → AlikeCall n (scan o t) (scan p t)
