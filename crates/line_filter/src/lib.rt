@@ -11,9 +11,10 @@ use std::io;
 
 // What a program makes of the lines of its input.
 pub trait LineFilter {
-    // what it is after a line, and what it said
+    // what holds of it before a line, the line, what it says, and of it then
     ghost answers: { Self → List ℕ → Result Bool Failed → Self → Type 0 };
-    // and after the end
+
+    // and where the end is answered
     ghost finishes: { Self → List ℕ → Result (Unit {0}) Failed → Self → Type 0 };
 
     // Answers a line, without its line feed, and says whether the run goes on.
@@ -52,8 +53,9 @@ fn answer_piece<F: LineFilter>(
 }
 
 // Answers the lines of standard input until the run is over: the input is, or a line has ended the run, or an edge has failed. Of a line as many bytes are kept
-// as the lent buffer has.
-// A proved loop has to end, and nothing says that the input does: the loop has more turns than any run uses up.
+// as the lent buffer has. Which bytes come is the system's: what is promised is that there is an input of whose lines this is a run.
+// A proved loop has to end, and nothing says that the input does: the loop has more turns than any run uses up. Behind them a run would end as where a read
+// fails.
 pub fn answer_input<R: io::Input + Eprint + Alloc, F: LineFilter>(
     edges: &Edges<R>,
     filter: &mut F,
