@@ -32,7 +32,7 @@ specs = [f for f in glob.glob(f'{ROOT}/crates/*/specs/*.antt') if os.path.basena
 stated = [f for f in specs if os.path.basename(f)[:-5] in STATED]
 rest = [f for f in specs if f not in stated]
 of_traces = [f for f in rest if '/crates/trace' in f]
-of_lists = [f for f in rest if '/crates/yard_list/' in f or '/crates/neighbor_line/' in f]
+of_lists = [f for f in rest if '/crates/yard_list/' in f or '/crates/neighbor_line/' in f or f.endswith('/crates/text/specs/Form.antt')]
 of_programs = [f for f in rest if '/crates/filter/' in f or '/crates/pieces/' in f or '/crates/line_filter/' in f or '/crates/old_lines/' in f]
 code = glob.glob(f'{ROOT}/crates/*/src/*.rt')
 print('statements of the theorems\t', lines(stated))

@@ -3,7 +3,7 @@ use Rattle.std.specs.Prelude.{⊤, ℕ, ◌≡◌, List, [], ◌++◌, Option, S
 use Rattle.filter.specs.declared.Failed.{Failed}
 use Rattle.filter.specs.Edges.{Counts}
 use Rattle.pieces.specs.Statement.{Held}
-use Rattle.pieces.proofs.Lines.{whole_of, Within}
+use Rattle.pieces.proofs.Lines.{whole_of, HeldWithin}
 use Rattle.line_filter.specs.Runs.{Answering, Finishing, AllAnswered, RunOver, cut_parts}
 
 -- where the run goes on, what is kept of a line lies within the buffer
@@ -12,7 +12,7 @@ KeptWithin r line = IfOk r (λ k. MatchOption k ⊤ (λ n. Counts n line))
 
 -- a run in which the lines that were got are answered, and some bytes of those that came are still to be looked at
 pub record Going {S : Type 0} (answers : Answering S) (size : ℕ) (s : S) (left came : List ℕ) (h : Held) (t : S) : Type 0 where
-  pub fits : Within size h
+  pub fits : HeldWithin size h
   pub whole : (more : List ℕ) → whole_of size h (left ++ more) ≡ cut_parts size (came ++ more)
   pub answered : AllAnswered answers s h.lines t
 

@@ -1,4 +1,5 @@
-// A program that answers its input line by line: standard input is read in pieces, its lines are taken out of them, and each is answered before the next read.
+// The loop of a program that answers its input line by line: standard input is read in pieces, its lines are taken out of them, and each is answered before the
+// next read.
 #![tactic(auto)]
 
 ghost use Rattle.std.specs.Prelude.{ℕ, ◌≡◌, ◌≤◌, Bool, List, Result, length};

@@ -3,7 +3,7 @@ use Rattle.std.specs.Prelude.{Option, Some, None, ℕ, ◌+◌, ◌%◌}
 use Rattle.management.specs.declared.frame.Source.{Source}
 use Rattle.management.specs.declared.frame.ReceivedFrame.{ReceivedFrame}
 
--- the sender of a "data or command frame" (02, L4). One that can't be decoded, a reserved and an inter-PAN frame say of none
+-- the sender of a "data or command frame" (02, L4). One that can't be decoded, a reserved and an inter-PAN frame name none
 unfoldable pub sender_of : ReceivedFrame → Option Source
 sender_of ReceivedFrame.Undecodable = None
 sender_of (ReceivedFrame.Data s) = Some s

@@ -128,5 +128,7 @@ moves =
       first = refl;
       known = refl;
       short = refl;
+      most = refl;
+      above = refl;
       zeros = refl;
     }

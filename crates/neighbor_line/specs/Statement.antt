@@ -26,8 +26,10 @@ pub record Moves : Type 0 where
   -- how long the results are
   pub forth-long : (t : List ℕ) (room n : ℕ) → forth_answer t room ≡ Ok n → (n ≡ length t + 2) × (n ≤ 57)
   pub back-long : (t : List ℕ) (room n : ℕ) → back_answer t room ≡ Ok n → (n + 2 ≡ length t) × (n ≤ 55)
-  -- written out: a line moved forth; a last-heard time of 1, also where the buffer is too short; one of two zeros
+  -- written out: a line moved forth; a last-heard time of 1, also where the buffer is too short; the greatest time and the next; one of two zeros
   pub first : line_left 49 (forth_left (bytes "n\t0000\t00000000000000aa\t11\t0\t1\t1\t1\t25\t1\t3\t0011\n") (bytes ".................................................")) ≡ bytes "n\t0000\t00000000000000aa\t11\t0\t1\t1\t1\t25\t1\t3\t0011\t0\n"
   pub known : back_answer (bytes "n\t0000\t00000000000000aa\t11\t0\t1\t1\t1\t25\t1\t3\t0011\t1\n") 47 ≡ Err MoveRefusal.LastHeardKnown
   pub short : back_answer (bytes "n\t0000\t00000000000000aa\t11\t0\t1\t1\t1\t25\t1\t3\t0011\t1\n") 46 ≡ Err MoveRefusal.ShortBuffer
+  pub most : back_answer (bytes "n\t0000\t00000000000000aa\t11\t0\t1\t1\t1\t25\t1\t3\t0011\t4294967295\n") 47 ≡ Err MoveRefusal.LastHeardKnown
+  pub above : back_answer (bytes "n\t0000\t00000000000000aa\t11\t0\t1\t1\t1\t25\t1\t3\t0011\t4294967296\n") 47 ≡ Err MoveRefusal.NotOfForm
   pub zeros : back_answer (bytes "n\t0000\t00000000000000aa\t11\t0\t1\t1\t1\t25\t1\t3\t0011\t00\n") 0 ≡ Err MoveRefusal.NotOfForm

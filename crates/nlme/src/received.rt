@@ -1,4 +1,4 @@
-// What a received frame does: teaching, responses, and leave commands.
+// What a received frame does: its sender is heard, responses, and leave commands.
 ghost use Rattle.std.specs.Prelude.{◌≡◌};
 ghost use Rattle.management.specs.Frame.{sender_of};
 ghost use Rattle.nib.specs.NeighborTable.{on_entries};

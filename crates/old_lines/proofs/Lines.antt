@@ -10,7 +10,7 @@ use Rattle.std.specs.Result.{result_ok}
 use Rattle.std.proofs.lemmas.Option.{none-some}
 use Rattle.lists.specs.Lists.{over}
 use Rattle.lists.proofs.Lists.{over-take}
-use Rattle.text.specs.Text.{bytes, decimal_text}
+use Rattle.text.specs.Text.{decimal_text, bad_text}
 use Rattle.text.proofs.Numbers.{decimal-long}
 use Rattle.neighbor_line.specs.declared.MoveRefusal.{MoveRefusal}
 use Rattle.neighbor_line.specs.Moves.{forth_refusal, forth_text, forth_answer, forth_left, back_refusal, back_text, back_answer, back_left, answer_of, left_of}
@@ -19,14 +19,13 @@ use Rattle.neighbor_line.proofs.Moves.{moves}
 use Rattle.old_lines.specs.declared.Direction.{Direction}
 use Rattle.old_lines.specs.declared.Direction.TheVariants.{Forth, Back}
 use Rattle.old_lines.specs.declared.Moved.{Moved}
-use Rattle.old_lines.specs.OldLines.{longest, with_feed, move_refusal, moved_text, turned_down_text, line_printed, line_moved}
+use Rattle.old_lines.specs.OldLines.{longest, with_feed, move_refusal, moved_text, line_printed, line_moved}
 use Rattle.old_lines.specs.Private.{length_by}
 
 -- that a line is bad has room
-pub turned_down_short : (number : ℕ) → length (turned_down_text number) ≤ longest
-unfolding turned_down_text
-turned_down_short number =
-    omega (arith, decimal-long number, length-append (bytes "bad\t") (decimal_text number ++ (10 ∷ [])), length-append (decimal_text number) (10 ∷ []))
+pub bad_short : (number : ℕ) → length (bad_text number) ≤ longest
+unfolding bad_text
+bad_short number = omega (arith, decimal-long number, length-append (decimal_text number) (10 ∷ []))
 
 -- a line and its line feed, written into a buffer that has room for both
 pub feed_written : (l line : List ℕ) → length line + 1 ≤ length l → take (length line + 1) (sets (sets l 0 line) (length line) (10 ∷ [])) ≡ with_feed line

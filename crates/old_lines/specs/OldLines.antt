@@ -1,6 +1,6 @@
 -- What a line of a file of old lines prints (02, L4): the line moved, or that it is bad.
 use Rattle.std.specs.Prelude.{Option, Some, None, ℕ, ◌+◌, ◌≡◌, Bool, true, false, List, [], ◌∷◌, ◌++◌, Result, IfOk, min, cond, eqb, length}
-use Rattle.text.specs.Text.{bytes, decimal_text}
+use Rattle.text.specs.Text.{bad_text}
 use Rattle.filter.specs.declared.Failed.{Failed}
 use Rattle.neighbor_line.specs.declared.MoveRefusal.{MoveRefusal}
 use Rattle.neighbor_line.specs.Moves.{forth_refusal, forth_text, back_refusal, back_text}
@@ -24,14 +24,10 @@ abbrev pub moved_text : Direction → List ℕ → List ℕ
 moved_text Forth t = forth_text t
 moved_text Back t = back_text t
 
--- `bad` and the line's number
-unfoldable pub turned_down_text : ℕ → List ℕ
-turned_down_text number = bytes "bad\t" ++ (decimal_text number ++ (10 ∷ []))
-
 -- what a line prints, and whether it is moved
 abbrev pub printed_by : Option MoveRefusal → List ℕ → ℕ → List ℕ
 printed_by None text number = text
-printed_by (Some r) text number = turned_down_text number
+printed_by (Some r) text number = bad_text number
 
 unfoldable pub line_printed : Direction → List ℕ → ℕ → List ℕ
 line_printed d line number = printed_by (move_refusal d (with_feed line)) (moved_text d (with_feed line)) number

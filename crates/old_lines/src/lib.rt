@@ -1,11 +1,11 @@
 // Files of old lines: neighbour lines without a last-heard time are moved forth to lines with one, or back, until a line is turned down.
 #![tactic(auto)]
 
-ghost use Rattle.std.specs.Prelude.{◌≡◌, IfOk, length};
+ghost use Rattle.std.specs.Prelude.{◌≡◌, length};
 ghost use Rattle.lists.specs.Lists.{over};
-ghost use Rattle.text.specs.Writer.{with_text};
+ghost use Rattle.text.specs.Text.{bad_text};
 ghost use Rattle.neighbor_line.specs.Moves.{left_of};
-ghost use Rattle.old_lines.specs.OldLines.{with_feed, move_refusal, moved_text, turned_down_text, line_printed, line_moved, MoveAnswered, EndAnswered};
+ghost use Rattle.old_lines.specs.OldLines.{with_feed, move_refusal, moved_text, line_printed, line_moved, MoveAnswered, EndAnswered};
 ghost use Rattle.old_lines.specs.Private.{length_by};
 
 use filter::{Edges, Failed};
@@ -61,23 +61,13 @@ fn move_with_feed(direction: Direction, line: &[u8], out: &mut [u8; LINE_BYTES])
     move_whole(direction, &whole[..line.len() + 1], out)
 }
 
-// Writes that a line is bad.
-#[tactic(auto, using(text::proofs::Written::in_turn), unfolding(crate::specs::OldLines::turned_down_text))]
-fn write_turned_down(out: &mut Writer, number: u32)
-    ensures { out.new ≡ with_text out.old (turned_down_text number) }
-{
-    out.write(b"bad\t");
-    out.write_decimal(number);
-    out.write(b"\n");
-}
-
 // Turns a line down: that it is bad is written at the start of a buffer, and its length is returned.
-#[tactic(auto, using(text::proofs::Written::from_start, crate::proofs::Lines::turned_down_short), unfolding(text::specs::Writer::with_text))]
+#[tactic(auto, using(text::proofs::Written::from_start, crate::proofs::Lines::bad_short), unfolding(text::specs::Writer::with_text))]
 fn turn_down(out: &mut [u8; LINE_BYTES], number: u32) -> usize
-    ensures { (result ≡ length (turned_down_text number)) × (out.new ≡ over out.old (turned_down_text number)) }
+    ensures { (result ≡ length (bad_text number)) × (out.new ≡ over out.old (bad_text number)) }
 {
     let mut text = Writer::new(out);
-    write_turned_down(&mut text, number);
+    text.write_bad(number);
     text.place()
 }
 

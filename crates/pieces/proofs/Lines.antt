@@ -101,22 +101,22 @@ abbrev pub whole_of : ℕ → Held → List ℕ → List (List ℕ)
 whole_of n h s = h.lines ++ map (take n) (onto (kept_bytes h) (parts 10 s))
 
 -- its buffer has n bytes, and what is kept lies within it
-abbrev pub Within : ℕ → Held → Type 0
-Within n h = (length h.line ≡ n) × (h.kept ≤ n)
+abbrev pub HeldWithin : ℕ → Held → Type 0
+HeldWithin n h = (length h.line ≡ n) × (h.kept ≤ n)
 
 -- what it holds after a turn in which the line is ended or not
 abbrev pub after : List ℕ → ℕ → Held → Bool → Held
 after piece at h b = cond b (line_got (with_more piece at h)) (with_more piece at h)
 
 -- a turn changes nothing of the whole
-module _ (n : ℕ) (piece : List ℕ) (at : ℕ) (s : List ℕ) (h : Held) (fits : Within n h) where
+module _ (n : ℕ) (piece : List ℕ) (at : ℕ) (s : List ℕ) (h : Held) (fits : HeldWithin n h) where
   kept-now : kept_bytes (with_more piece at h) ≡ take n (kept_bytes h ++ line_bytes piece at)
   unfolding line_taken line_after
   kept-now =
       kept_more h.line (line_bytes piece at) h.kept (omega (arith, fits.0, fits.1))
       ∙ ap (λ (j : ℕ). take j (kept_bytes h ++ line_bytes piece at)) fits.0
 
-  pub turn-fits : (b : Bool) → Within n (after piece at h b)
+  pub turn-fits : (b : Bool) → HeldWithin n (after piece at h b)
   unfolding line_taken line_after
   turn-fits true = (length-sets h.line h.kept (line_bytes piece at) ∙ fits.0, zero-le)
   turn-fits false = (length-sets h.line h.kept (line_bytes piece at) ∙ fits.0, omega (arith, fits.0))
@@ -148,12 +148,12 @@ module _ (n : ℕ) (piece : List ℕ) (at : ℕ) (s : List ℕ) (h : Held) (fits
 
 -- nor does a piece, nor do pieces
 abbrev Same : ℕ → Held → List ℕ → Held → List ℕ → Type 0
-Same n g s h t = Within n g × (whole_of n g s ≡ whole_of n h t)
+Same n g s h t = HeldWithin n g × (whole_of n g s ≡ whole_of n h t)
 
-no_more : (n : ℕ) (piece : List ℕ) (at : ℕ) (s : List ℕ) (h : Held) → Within n h → length piece ≤ at → Same n h s h (drop at piece ++ s)
+no_more : (n : ℕ) (piece : List ℕ) (at : ℕ) (s : List ℕ) (h : Held) → HeldWithin n h → length piece ≤ at → Same n h s h (drop at piece ++ s)
 no_more n piece at s h f l = (f, ap (λ (z : List ℕ). whole_of n h (z ++ s)) (sym (drop_of_length-le piece l)))
 
-piece-whole : (n turns : ℕ) (piece : List ℕ) (at : ℕ) (s : List ℕ) (h : Held) → Within n h → length piece - at ≤ turns → Same n (through_piece turns piece at h) s h (drop at piece ++ s)
+piece-whole : (n turns : ℕ) (piece : List ℕ) (at : ℕ) (s : List ℕ) (h : Held) → HeldWithin n h → length piece - at ≤ turns → Same n (through_piece turns piece at h) s h (drop at piece ++ s)
 unfolding line_taken
 piece-whole n zero piece at s h f l = no_more n piece at s h f (omega arith)
 piece-whole n (suc turns) piece at s h f l = go (ltb at (length piece)) refl (λ m. piece-whole n turns piece at' s h' (turn-fits n piece at s h f (is_ended piece at)) m)
@@ -171,7 +171,7 @@ piece-whole n (suc turns) piece at s h f l = go (ltb at (length piece)) refl (λ
         (q.0, q.1 ∙ turn-whole n piece at s h f (is_ended piece at) refl)
     go false e r = no_more n piece at s h f (ltb-false at (length piece) e)
 
-pieces_whole : (n : ℕ) (pieces : List (List ℕ)) (h : Held) → Within n h → Same n (after_pieces pieces h) [] h (flatten pieces)
+pieces_whole : (n : ℕ) (pieces : List (List ℕ)) (h : Held) → HeldWithin n h → Same n (after_pieces pieces h) [] h (flatten pieces)
 unfolding flatten
 pieces_whole n [] h f = (f, refl)
 pieces_whole n (piece ∷ pieces) h f =
@@ -180,7 +180,7 @@ pieces_whole n (piece ∷ pieces) h f =
     (q.0, q.1 ∙ r.1)
 
 -- at the end nothing is to come
-pub at-end : (n : ℕ) (h : Held) → Within n h → whole_of n h [] ≡ h.lines ++ (kept_bytes h ∷ [])
+pub at-end : (n : ℕ) (h : Held) → HeldWithin n h → whole_of n h [] ≡ h.lines ++ (kept_bytes h ∷ [])
 at-end n h f =
     let k = kept_bytes h in
     ap (λ (z : List ℕ). h.lines ++ (z ∷ [])) (ap (take n) (append-nil k) ∙ take_all n k (omega (arith, length-take h.kept h.line, f.1)))

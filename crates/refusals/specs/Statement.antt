@@ -1,7 +1,8 @@
 -- The statement of demand 1: "Any state, request, beacon list or outcome handed to a public entry gets the step made or one of the numbered refusals; after a
 -- refusal the state, and every lent buffer, is as handed in. No prior check is expected of the caller."
 -- The numbers, their order and their conditions stand here as 01 has them ("When a call is turned down").
--- They rest on no definition of a refusal's tests; which refusal has which number stands here too (`numbered`).
+-- They rest on no definition of a refusal's tests, but for a line's move, whose form and result are those of `neighbor_line`.
+-- Which refusal has which number stands here too (`numbered`, `moves-numbered`).
 use Rattle.std.specs.Prelude.{None, Result, Ok, Err, is_ok, true, ℕ, suc, ◌-◌, ◌<◌, ◌≤◌, ◌≡◌, Bool, false, List, [], ◌∷◌, map, ◌⊎◌, ◌↔◌, length, take, drop}
 use Rattle.discovery.specs.declared.mlme.Address.{Address}
 use Rattle.supervision.specs.declared.parent_timer.ParentTimer.{ParentTimer}

@@ -59,6 +59,10 @@ decimal_digits (suc k) n = cond (ltb n 10) (digit_byte n ∷ []) (decimal_digits
 unfoldable pub decimal_text : ℕ → List ℕ
 decimal_text n = decimal_digits 10 n
 
+-- "`bad`, tab, its number", and a line feed: what is printed of a line that is turned down
+unfoldable pub bad_text : ℕ → List ℕ
+bad_text n = bytes "bad" ++ (9 ∷ (decimal_text n ++ (10 ∷ [])))
+
 -- the last k hexadecimal digits of a number
 abbrev pub hex_text : ℕ → ℕ → List ℕ
 hex_text zero n = []

@@ -1,6 +1,6 @@
 // Text that is written one piece behind the other into a lent buffer.
 ghost use Rattle.std.specs.Prelude.{◌≡◌, min};
-ghost use Rattle.text.specs.Text.{decimal_text, hex_text, right_text};
+ghost use Rattle.text.specs.Text.{decimal_text, bad_text, hex_text, right_text};
 
 // A lent buffer, and the place in it where the next text goes.
 #[derive(Drop)]
@@ -51,6 +51,16 @@ impl<'a> Writer<'a> {
     {
         let length = crate::write_decimal(self.out, self.at, n);
         self.advance(length);
+    }
+
+    // Writes that the line of a number is bad.
+    #[tactic(auto, using(crate::proofs::Written::in_turn), unfolding(crate::specs::Text::bad_text))]
+    pub fn write_bad(&mut self, number: u32)
+        ensures { self.new ≡ with_text self.old (bad_text number) }
+    {
+        self.write(b"bad\t");
+        self.write_decimal(number);
+        self.write(b"\n");
     }
 
     // Writes a number in decimal, right-aligned with spaces in so many characters, but at most ten.

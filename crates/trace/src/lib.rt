@@ -636,7 +636,7 @@ fn print_told(out: &mut Writer, told: Answered)
     print_each(out, networks_of(&told.networks));
 }
 
-// How many fields a line has at most that tells something of entries: its word, and one for each entry that a table has room for.
+// How many fields a line with one for each entry has at most: its word, and as many as a table has room for.
 const ENTRY_FIELDS: usize = 1 + MAX_NEIGBOUR_TABLE as usize;
 
 // The candidates' indexes, as many fields as there are.

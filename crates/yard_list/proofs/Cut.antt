@@ -12,14 +12,14 @@ use lib.ListN.{length, take, drop, get_or, length-drop}
 use lib.Seq.{take_all, take-take, take-add, drop_at, length-take-le}
 use Rattle.lists.specs.Lists.{first_index}
 use Rattle.lists.proofs.First.{first-le}
-use Rattle.text.specs.Text.{parts, fields, decimal_text}
+use Rattle.text.specs.Text.{parts, fields, decimal_text, bad_text}
 use Rattle.std.proofs.lemmas.Bool.{and_parts}
 use Rattle.text.proofs.Parts.{parts-some, parts_first, parts-only}
 use Rattle.text.specs.Form.{have_forms}
 use Rattle.text.proofs.Sizes.{total, total-parts}
 use Rattle.text.proofs.Forms.{line-size}
 use Rattle.neighbor_line.specs.NeighborLine.{entry_forms}
-use Rattle.yard_list.specs.YardList.{request_forms, is_good, good_from, list_text, bad_text, ended_lines, unended, yard_text}
+use Rattle.yard_list.specs.YardList.{request_forms, is_good, good_from, list_text, ended_lines, unended, yard_text}
 use Rattle.yard_list.proofs.Lines.{good_few}
 
 good-size : (k : ℕ) (l : List ℕ) → is_good k l ≡ true → length l ≤ 65

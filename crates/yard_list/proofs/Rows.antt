@@ -21,12 +21,12 @@ use Rattle.yard_list.specs.Private.{InTable}
 use Rattle.nib.specs.declared.NwkNeighbor.{NwkNeighbor}
 use Rattle.candidates.proofs.Laws.{few, below}
 use Rattle.neighbor_line.specs.NeighborLine.{entry_read}
-use Rattle.text.specs.Text.{parts, fields, decimal_text}
+use Rattle.text.specs.Text.{parts, fields, decimal_text, bad_text}
 use Rattle.text.specs.Form.{hex_at, decimal_at, flag_at}
 use Rattle.text.proofs.Forms.{at_most}
 use Rattle.std.proofs.lemmas.Bool.{and_parts}
 use Rattle.text.proofs.Numbers.{decimal-long, decimal-short}
-use Rattle.yard_list.specs.YardList.{good_from, entries_in, request_candidates, row_of, rows_from, header, list_text, bad_text, ended_lines, unended, yard_text}
+use Rattle.yard_list.specs.YardList.{good_from, entries_in, request_candidates, row_of, rows_from, header, list_text, ended_lines, unended, yard_text}
 use Rattle.yard_list.proofs.Lines.{good_few}
 
 module _ (es : List NwkNeighbor) where

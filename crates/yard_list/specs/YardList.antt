@@ -3,7 +3,7 @@ use Rattle.std.specs.Prelude.{ℕ, suc, ◌+◌, ◌-◌, Bool, cond, ◌&&◌, 
 use Rattle.nib.specs.Neighbors.{blank}
 use Rattle.nib.specs.declared.NwkNeighbor.{NwkNeighbor}
 use Rattle.candidates.specs.Candidates.{candidates}
-use Rattle.text.specs.Text.{bytes, parts, fields, decimal_text, hex_text}
+use Rattle.text.specs.Text.{bytes, parts, fields, decimal_text, hex_text, bad_text}
 use Rattle.text.specs.declared.form.Form.{Form}
 use Rattle.text.specs.declared.form.Form.TheVariants.{Word, Hex, Decimal}
 use Rattle.neighbor_line.specs.NeighborLine.{entry_forms, entry_read}
@@ -61,10 +61,6 @@ header =
 unfoldable pub list_text : List (List ℕ) → List ℕ
 list_text [] = header
 list_text (l ∷ ls) = header ++ rows_from (entries_in ls) 1 (request_candidates (fields l) (entries_in ls))
-
--- `bad`, tab, a line's number, line feed
-unfoldable pub bad_text : ℕ → List ℕ
-bad_text n = bytes "bad" ++ (9 ∷ column (decimal_text n) 10)
 
 -- the lines of a text that are ended by a line feed, and what stands after the last line feed
 abbrev pub ended_lines : List ℕ → List (List ℕ)

@@ -8,7 +8,7 @@ ghost use Rattle.candidates.specs.Candidates.{list_of, items_of};
 ghost use Rattle.text.specs.Text.{parts, fields, decimal_text, hex_text};
 ghost use Rattle.text.specs.Writer.{with_text};
 ghost use Rattle.yard_list.specs.Private.{InTable};
-ghost use Rattle.yard_list.specs.YardList.{is_good, good_from, entries_in, request_candidates, column, row_of, rows_from, list_text, bad_text, yard_text};
+ghost use Rattle.yard_list.specs.YardList.{is_good, good_from, entries_in, request_candidates, column, row_of, rows_from, list_text, yard_text};
 
 use candidates::CandidateList;
 use nib::{ExtendedPanId, MAX_NEIGBOUR_TABLE, NeighborTable, NwkNeighbor};
@@ -143,16 +143,6 @@ fn write_list(out: &mut Writer, input: &[u8], ended: usize)
     write_rows(out, table, list);
 }
 
-// Writes that a line is bad.
-#[tactic(auto, using(text::proofs::Written::in_turn), unfolding(crate::specs::YardList::bad_text))]
-fn write_bad(out: &mut Writer, number: usize)
-    requires { number ≤ 18 }
-    ensures { out.new ≡ with_text out.old (bad_text number) }
-{
-    out.write(b"bad\t");
-    write_number(out, number as u8, b'\n');
-}
-
 // Whether nothing stands after the last line feed.
 fn has_no_rest(input: &[u8], ended: usize) -> bool
     ensures { result ≡ eqb (length (get_or (parts 10 input.now) ended [])) 0 }
@@ -168,13 +158,13 @@ fn write_yard_list(out: &mut Writer, input: &[u8])
     let ended = text::part_count(input, b'\n') - 1;
     let good = good_lines(input, ended);
     if good == 0 {
-        return write_bad(out, 1);
+        return out.write_bad(1);
     }
     if good != ended {
-        return write_bad(out, good + 1);
+        return out.write_bad(good as u32 + 1);
     }
     if !has_no_rest(input, ended) {
-        return write_bad(out, good + 1);
+        return out.write_bad(good as u32 + 1);
     }
     write_list(out, input, ended);
 }
