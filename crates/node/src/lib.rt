@@ -38,17 +38,17 @@
 // `KeepaliveMethod` and `parent_timer::ParentTimer` in `supervision`.
 #![tactic(auto)]
 
-ghost use Rattle.std.specs.Prelude.{◌≡◌, MatchOption, false, not, length};
+ghost use Rattle.std.specs.Prelude.{◌≡◌, MatchOption, true, false, not, length};
 ghost use Rattle.supervision.specs.Keepalive.{keepalive_interval_ms, keepalive_method, negotiated_poll_interval_ms};
 ghost use Rattle.operation.specs.Operation.{association_for, telling, ending};
 ghost use Rattle.join.specs.Join.{failing};
 ghost use Rattle.join.specs.Rejoin.{request_sent};
 ghost use Rattle.exchange.specs.Exchange.{data_sent, timeout_request_sent};
 ghost use Rattle.node.specs.Beginning.{new_state};
-ghost use Rattle.node.specs.Looks.{parent, tried, next, deciding};
+ghost use Rattle.node.specs.Looks.{parent, tried, next, moved, potential_cleared, deciding};
 ghost use Rattle.node.specs.Refusals.{refuse, past_in, bad_by, bad};
 ghost use Rattle.node.specs.Private.{refusal, start_refusal};
-ghost use Rattle.node.specs.Calls.{join_by, associate, with_chosen, rejoin_among, scan_failed, scan_heard, scan_decided, confirm_by, scanned, continuing, go_on, table_changed, after_frame, handled_on, heard_on, processed, after_leave, reception_decided, transmission_decided, answer, choose, refresh, page_answer, page_left, discovery, join, send, poll, receive, timeout, scan, association, transmission, reception, elapsed, take_leave, take_status};
+ghost use Rattle.node.specs.Calls.{join_by, associate, with_chosen, rejoin_among, scan_failed, scan_heard, scan_decided, confirm_by, scanned, continuing, go_on, table_changed, after_frame, handled_on, heard_on, processed, after_leave, transmission_decided, answer, choose, refresh, page_answer, page_left, discovery, join, send, poll, receive, timeout, scan, association, transmission, reception, elapsed, take_leave, take_status};
 
 use candidates::tries::Candidates;
 use candidates::{CandidateList, tries};
@@ -197,31 +197,37 @@ impl State {
             .or(is_under_way.then_some(Refusal::OperationUnderWay))
     }
 
-    // A call's refusal, where it has one, or else the answer that is made.
-    fn unless<F: FnOnce() -> Answer>(&self, refusal: Option<Refusal>, make: F) -> Answer
-        requires { F.IsAlwaysCallable make }
-        ensures { MatchOption refusal (F.post make result) (λ k. result ≡ refuse k self.now) }
-    {
-        match refusal {
-            Some(refusal) => self.refuse(refusal),
-            None => make(),
-        }
-    }
-
     // Refusal 5, or else the answer that is made.
     fn unless_bad<F: FnOnce() -> Answer>(&self, make: F) -> Answer
         requires { F.IsAlwaysCallable make }
         ensures { MatchOption (refusal self.now) (F.post make result) (λ k. result ≡ refuse k self.now) }
     {
-        self.unless(self.refusal(), make)
+        match self.refusal() {
+            Some(refusal) => self.refuse(refusal),
+            None => make(),
+        }
     }
 
-    // A start's refusal, where it has one, or else the answer that is made.
-    fn start<F: FnOnce() -> Answer>(&self, make: F) -> Answer
-        requires { F.IsAlwaysCallable make }
-        ensures { MatchOption (start_refusal self.now) (F.post make result) (λ k. result ≡ refuse k self.now) }
+    // Refusal 5, or else the decision that is made, written.
+    fn decide_unless_bad<F: FnOnce() -> Decision>(&self, decide: F) -> Answer
+        requires { F.IsAlwaysCallable decide }
+        ensures { MatchOption (refusal self.now) ((d : Decision) × ((F.post decide d) × (result ≡ deciding self.now d))) (λ k. result ≡ refuse k self.now) }
     {
-        self.unless(self.start_refusal(), make)
+        match self.refusal() {
+            Some(refusal) => self.refuse(refusal),
+            None => self.decided_on(decide()),
+        }
+    }
+
+    // A start's refusal, where it has one, or else the decision that is made, written.
+    fn start<F: FnOnce() -> Decision>(&self, decide: F) -> Answer
+        requires { F.IsAlwaysCallable decide }
+        ensures { MatchOption (start_refusal self.now) ((d : Decision) × ((F.post decide d) × (result ≡ deciding self.now d))) (λ k. result ≡ refuse k self.now) }
+    {
+        match self.start_refusal() {
+            Some(refusal) => self.refuse(refusal),
+            None => self.decided_on(decide()),
+        }
     }
 }
 
@@ -253,33 +259,56 @@ impl State {
     }
 }
 
-// What a decision writes, and the answer.
+// What a decision writes, each change in a function of its own: a call that makes none of them then clears no memory for a table.
 impl State {
+    // The candidate being tried is no longer a potential parent.
+    fn clear_tried(&mut self)
+        ensures { self.new ≡ potential_cleared true self.old }
+    {
+        let index = tries::tried_index(self.candidates, self.table.len());
+        self.table = neighbor_table::clear_potential_parent(self.table, index);
+    }
+
+    // The next candidate is tried.
+    fn take_next(&mut self)
+        ensures { self.new ≡ moved Move.TakeNext self.old }
+    {
+        self.candidates = tries::take_next(self.candidates, self.table.len());
+    }
+
+    // The next candidate is tried, and is the parent.
+    fn adopt_next(&mut self)
+        ensures { self.new ≡ moved Move.AdoptNext self.old }
+    {
+        let count = self.table.len();
+        let index = tries::next_index(self.candidates, count);
+        self.table = neighbor_table::adopt_parent(self.table, index);
+        self.candidates = tries::take_next(self.candidates, count);
+    }
+
+    // The candidate being tried is the parent, and every entry loses its beacon fields.
+    fn join_tried(&mut self)
+        ensures { self.new ≡ moved Move.JoinTried self.old }
+    {
+        let index = tries::tried_index(self.candidates, self.table.len());
+        self.table = neighbor_table::mark_parent(self.table, index);
+        self.table = neighbor_table::clear_beacon_fields(self.table);
+    }
+
     // A decision is written, and its answer made.
+    #[tactic(auto, unfolding(crate::specs::Looks::deciding_with, crate::specs::Looks::potential_cleared, crate::specs::Looks::moved))]
     fn decided_on(&self, decision: Decision) -> Answer
         ensures { result ≡ deciding self.now decision }
     {
-        let count = self.table.len();
         let mut state = *self;
         if decision.clear_potential_parent {
-            let index = tries::tried_index(state.candidates, count);
-            state.table = neighbor_table::clear_potential_parent(state.table, index);
+            state.clear_tried();
         }
         match decision.candidate {
             Move::Stay => {}
-            Move::TakeNext => {
-                state.candidates = tries::take_next(state.candidates, count);
-            }
-            Move::AdoptNext => {
-                let index = tries::next_index(state.candidates, count);
-                state.table = neighbor_table::adopt_parent(state.table, index);
-                state.candidates = tries::take_next(state.candidates, count);
-            }
-            Move::JoinTried => {
-                let index = tries::tried_index(state.candidates, count);
-                state.table = neighbor_table::mark_parent(state.table, index);
-                state.table = neighbor_table::clear_beacon_fields(state.table);
-            }
+            Move::TakeNext => state.take_next(),
+            Move::AdoptNext => state.adopt_next(),
+            Move::JoinTried => state.join_tried(),
         }
         state.control = decision.control;
         Answer {
@@ -300,7 +329,7 @@ impl State {
     pub fn start_discovery(self, range: ScanRange) -> Answer
         ensures { result ≡ answer self (discovery range) }
     {
-        self.start(|| self.decided_on(operation::scan(self.control, ScanFor::Discovery, range)))
+        self.start(|| operation::scan(self.control, ScanFor::Discovery, range))
     }
 
     // A join or rejoin ends without success.
@@ -359,7 +388,10 @@ impl State {
     pub fn join(self, request: NlmeJoinRequest) -> Answer
         ensures { result ≡ answer self (join request) }
     {
-        self.start(|| self.join_by(request))
+        match self.start_refusal() {
+            Some(refusal) => self.refuse(refusal),
+            None => self.join_by(request),
+        }
     }
 
     // Starts the send of a data frame by way of the parent: `Ask(Transmit)` with its header, to which the owner puts the payload, then `Sent`: `SendOk`;
@@ -369,10 +401,7 @@ impl State {
     pub fn send_data(self, destination: ShortAddress, secure: bool) -> Answer
         ensures { result ≡ answer self (send destination secure) }
     {
-        self.start(|| {
-            let parent = self.parent();
-            self.decided_on(exchange::start_send(self.control, destination, secure, parent))
-        })
+        self.start(|| exchange::start_send(self.control, destination, secure, self.parent()))
     }
 
     // Polls the parent once: `Ask(Poll)`, then `Polled`: `PollData` where the frame is the application's; `PollNothing` where there was none, or one that the
@@ -381,7 +410,7 @@ impl State {
     pub fn poll(self) -> Answer
         ensures { result ≡ answer self poll }
     {
-        self.start(|| self.decided_on(exchange::start_poll(self.control, self.parent())))
+        self.start(|| exchange::start_poll(self.control, self.parent()))
     }
 
     // Receives one frame without a poll: `Ask(Receive)`, then `Polled` as a poll's, for a device that listens when idle. It needs no parent.
@@ -389,7 +418,7 @@ impl State {
     pub fn receive(self) -> Answer
         ensures { result ≡ answer self receive }
     {
-        self.start(|| self.decided_on(exchange::start_receive(self.control)))
+        self.start(|| exchange::start_receive(self.control))
     }
 
     // The start of a negotiation or a keepalive.
@@ -397,10 +426,7 @@ impl State {
     fn start_timeout(&self, purpose: TimeoutFor) -> Answer
         ensures { result ≡ answer self.now (timeout purpose) }
     {
-        self.start(|| {
-            let parent = self.parent();
-            self.decided_on(negotiation::start_timeout_request(self.control, purpose, parent))
-        })
+        self.start(|| negotiation::start_timeout_request(self.control, purpose, self.parent()))
     }
 
     // Asks the parent for the timeout that the attributes name: `Ask(Transmit)`, at most 3 times `Ask(Poll)`, then `NegotiationOver`: `Negotiated`, and the
@@ -550,13 +576,10 @@ impl State {
     }
 
     // What a poll or a receive was for goes on.
-    fn go_on(&self, purpose: ReceptionFor, answer: PollAnswer) -> Answer
-        ensures { result ≡ go_on false purpose answer self.now }
+    fn go_on(&self, purpose: ReceptionFor, answer: PollAnswer) -> Decision
+        ensures { result ≡ continuing purpose answer (parent self.now) (next self.now) self.now.control }
     {
-        let parent = self.parent();
-        let next = self.next();
-        let decision = continuing(self.control, purpose, answer, parent, next);
-        self.decided_on(decision)
+        continuing(self.control, purpose, answer, self.parent(), self.next())
     }
 
     // The table without the neighbour that a frame removes.
@@ -576,7 +599,7 @@ impl State {
         ensures { result ≡ after_frame purpose then self.now }
     {
         match then {
-            Then::Over(answer) => self.go_on(purpose, answer),
+            Then::Over(answer) => self.decided_on(self.go_on(purpose, answer)),
             Then::Announce(announcement) => {
                 self.decided_on(operation::announce(self.control, purpose, announcement))
             }
@@ -611,26 +634,9 @@ impl State {
         state.handled_on(purpose, handled)
     }
 
-    // By what the poll or the receive has brought.
-    #[tactic(auto, unfolding(crate::specs::Calls::reception_decided))]
-    fn decide_reception(
-        &self,
-        purpose: ReceptionFor,
-        outcome: Result<Option<ReceivedFrame>, MacError>,
-        clock: u32,
-    ) -> Answer
-        ensures { result ≡ reception_decided outcome clock purpose self.now }
-    {
-        match outcome {
-            Ok(None) => self.go_on(purpose, exchange::no_data(purpose)),
-            Ok(Some(frame)) => self.frame_received(purpose, frame, clock),
-            Err(MacError) => self.go_on(purpose, PollAnswer::PollMacError),
-        }
-    }
-
     // The outcome of a poll or a receive, with the frame that it brought. What it was for goes on; an accepted leave request is announced first
     // (`Ask(Transmit)`). The sender of a data or command frame was last heard at `clock`.
-    #[tactic(auto, unfolding(crate::specs::Calls::answer, crate::specs::Refusals::outcome))]
+    #[tactic(auto, unfolding(crate::specs::Calls::answer, crate::specs::Refusals::outcome, crate::specs::Calls::reception_decided))]
     pub fn reception_over(
         self,
         outcome: Result<Option<ReceivedFrame>, MacError>,
@@ -642,7 +648,11 @@ impl State {
             let Phase::Reception(purpose) = self.control.operation.phase else {
                 return self.refuse(Refusal::NotAwaited);
             };
-            self.decide_reception(purpose, outcome, clock)
+            match outcome {
+                Ok(None) => self.decided_on(self.go_on(purpose, exchange::no_data(purpose))),
+                Ok(Some(frame)) => self.frame_received(purpose, frame, clock),
+                Err(MacError) => self.decided_on(self.go_on(purpose, PollAnswer::PollMacError)),
+            }
         })
     }
 }
@@ -690,7 +700,7 @@ impl State {
         ensures { result ≡ go_on (not leaving.rejoin) leaving.purpose PollAnswer.PollNothing (after_leave leaving.rejoin self.now) }
     {
         let after = self.after_leave(leaving.rejoin);
-        let mut answer = after.go_on(leaving.purpose, PollAnswer::PollNothing);
+        let mut answer = after.decided_on(after.go_on(leaving.purpose, PollAnswer::PollNothing));
         answer.reset = !leaving.rejoin;
         answer
     }
@@ -753,8 +763,8 @@ impl State {
     pub fn tick_parent_timeout(self, elapsed_ms: u32) -> Answer
         ensures { result ≡ answer self (elapsed elapsed_ms) }
     {
-        self.unless_bad(|| {
-            self.decided_on(exchange::decide_tick(self.control, self.parent(), elapsed_ms))
+        self.decide_unless_bad(|| {
+            exchange::decide_tick(self.control, self.parent(), elapsed_ms)
         })
     }
 
@@ -764,7 +774,7 @@ impl State {
     pub fn refresh_parent_timeout(self) -> Answer
         ensures { result ≡ refresh self }
     {
-        self.unless_bad(|| self.decided_on(exchange::refresh_timeout(self.control)))
+        self.decide_unless_bad(|| exchange::refresh_timeout(self.control))
     }
 
     // Takes the leave indication out of its slot: `LeaveTaken` with it, or with none.
@@ -772,7 +782,7 @@ impl State {
     pub fn take_leave_indication(self) -> Answer
         ensures { result ≡ answer self take_leave }
     {
-        self.unless_bad(|| self.decided_on(exchange::take_leave(self.control)))
+        self.decide_unless_bad(|| exchange::take_leave(self.control))
     }
 
     // Takes the status indication out of its slot: `StatusTaken` with it, or with none. Its only status is ParentLinkFailure.
@@ -780,7 +790,7 @@ impl State {
     pub fn take_nwk_status_indication(self) -> Answer
         ensures { result ≡ answer self take_status }
     {
-        self.unless_bad(|| self.decided_on(exchange::take_status(self.control)))
+        self.decide_unless_bad(|| exchange::take_status(self.control))
     }
 
     // The candidates that a join (`require_permit_joining`) or a rejoin of a network would try now, in order: indexes in `table`, to be read by

@@ -281,6 +281,13 @@ impl Session {
         self.running(answer.state).saying(Said::Told(with_networks))
     }
 
+    // The answer to a call that finds no networks.
+    fn answered(self, answer: Answer) -> Turn
+        ensures { result ≡ told answer None self }
+    {
+        self.told(answer, None)
+    }
+
     // The outcome of a scan reaches the node.
     fn scan_told(self, outcome: Result<PanDescriptorList, MacError>) -> Turn
         ensures { result ≡ scan_told outcome self }
@@ -326,31 +333,31 @@ impl Session {
             TraceCall::Heard(seconds) => {
                 self.set_up(with_heard(state, seconds), Stage::SettingUp)
             }
-            TraceCall::Discovery(range) => self.told(state.start_discovery(range), None),
-            TraceCall::Join(request) => self.told(state.join(request), None),
+            TraceCall::Discovery(range) => self.answered(state.start_discovery(range)),
+            TraceCall::Join(request) => self.answered(state.join(request)),
             TraceCall::Send {
                 destination,
                 secure,
-            } => self.told(state.send_data(destination, secure), None),
-            TraceCall::Poll => self.told(state.poll(), None),
-            TraceCall::Receive => self.told(state.receive(), None),
-            TraceCall::Negotiate => self.told(state.negotiate_end_device_timeout(), None),
-            TraceCall::Keepalive => self.told(state.send_timeout_request_keepalive(), None),
+            } => self.answered(state.send_data(destination, secure)),
+            TraceCall::Poll => self.answered(state.poll()),
+            TraceCall::Receive => self.answered(state.receive()),
+            TraceCall::Negotiate => self.answered(state.negotiate_end_device_timeout()),
+            TraceCall::Keepalive => self.answered(state.send_timeout_request_keepalive()),
             TraceCall::Scan(n) => self.scan_after(n, unheard(n as usize)),
             TraceCall::Beacon(d) => self.scan_after(
                 self.missing.saturating_sub(1),
                 with_beacon(self.beacons, self.missing, d),
             ),
             TraceCall::ScanFailed => self.scan_told(Err(MacError)),
-            TraceCall::Association(outcome) => self.told(state.association_over(outcome), None),
-            TraceCall::Transmission(sent) => self.told(state.transmission_over(sent), None),
+            TraceCall::Association(outcome) => self.answered(state.association_over(outcome)),
+            TraceCall::Transmission(sent) => self.answered(state.transmission_over(sent)),
             TraceCall::Reception(outcome) => {
-                self.told(state.reception_over(outcome, self.clock), None)
+                self.answered(state.reception_over(outcome, self.clock))
             }
-            TraceCall::Tick(ms) => self.told(state.tick_parent_timeout(ms), None),
-            TraceCall::TakeLeave => self.told(state.take_leave_indication(), None),
-            TraceCall::TakeStatus => self.told(state.take_nwk_status_indication(), None),
-            TraceCall::Refresh => self.told(state.refresh_parent_timeout(), None),
+            TraceCall::Tick(ms) => self.answered(state.tick_parent_timeout(ms)),
+            TraceCall::TakeLeave => self.answered(state.take_leave_indication()),
+            TraceCall::TakeStatus => self.answered(state.take_nwk_status_indication()),
+            TraceCall::Refresh => self.answered(state.refresh_parent_timeout()),
             TraceCall::Choose {
                 extended_pan_id,
                 join_as_router,
