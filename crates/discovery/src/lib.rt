@@ -49,6 +49,9 @@ pub struct NetworkDescriptor {
     pub end_device_capacity: bool,
 }
 
+// How many networks a confirm tells of at most: one for each descriptor of a scan.
+pub const MAX_NETWORK_DESCRIPTORS: u8 = MAX_PAN_DESCRIPTOR_SIZE as u8;
+
 // The confirm of a discovery: the first `count` descriptors are in use.
 // An array with a count, since there is no heap.
 #[derive(Clone, Copy)]

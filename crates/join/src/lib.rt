@@ -52,14 +52,14 @@ pub fn failing(control: Control, status: NlmeJoinStatus) -> Decision
 }
 
 // Forgets what was negotiated with the last parent.
-fn reset_negotiation(control: Control) -> Control
+pub fn reset_negotiation(control: Control) -> Control
     ensures { result ≡ reset_negotiation control }
 {
     operation::with_nlme(control, control.nlme.reset_parent_negotiation())
 }
 
 // Stores the capabilities of a request.
-fn store_capabilities(mut control: Control, capabilities: CapabilityInformation) -> Control
+pub fn store_capabilities(mut control: Control, capabilities: CapabilityInformation) -> Control
     ensures { result ≡ store_capabilities capabilities control }
 {
     control.nlme.nib.capability_information = capabilities;

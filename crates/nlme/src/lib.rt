@@ -132,7 +132,7 @@ impl Nlme {
 
     // The header of the next command frame.
     #[tactic(auto, unfolding(crate::specs::Nlme::command_header))]
-    fn command_header(
+    pub fn command_header(
         self,
         destination: ShortAddress,
         destination_ieee: Option<IeeeAddress>,

@@ -381,7 +381,7 @@ pub fn poll_parent(control: Control, purpose: ReceptionFor, parent: NwkNeighbor)
 
 // The next of the polls for a response. With no parent those left are used up at once.
 #[tactic(auto, unfolding(crate::specs::Operation::polling))]
-fn take_poll(control: Control, parent: Option<NwkNeighbor>) -> Polling
+pub fn take_poll(control: Control, parent: Option<NwkNeighbor>) -> Polling
     ensures { result ≡ polling parent control }
 {
     let left = control.operation.polls_left;
