@@ -66,10 +66,10 @@ module _ (k : InputKind) (fs : List (List ℕ)) where
     further = omega (arith, length-drop 1 fs)
 
     reading-count : length readings ≡ length ls
-    reading-count = zip-long number_of ls (drop 1 fs) further
+    reading-count = omega (arith, zip-long number_of ls (drop 1 fs), further)
 
     dash-count : length dashes ≡ length ls
-    dash-count = zip-long is_dash ls (drop 1 fs) further
+    dash-count = omega (arith, zip-long is_dash ls (drop 1 fs), further)
 
     module _ (n : ℕ) (d : Bool) (ns : List ℕ) (r : ReadSoFar n d ns) where
       pub no_number : n < length ls → get_or readings n None ≡ None → None ≡ read_as k fs

@@ -10,8 +10,9 @@ use lib.ListN.{length, take, get_or, length-append, length-map, length-take}
 use lib.Seq.{length-take-le}
 use Rattle.lists.specs.Lists.{All}
 use Rattle.std.proofs.lemmas.List.{take_more}
+use Rattle.lists.proofs.Lists.{over-take}
 use Rattle.text.proofs.Numbers.{decimal-long, hex-long}
-use Rattle.text.proofs.Written.{in_turn}
+use Rattle.text.proofs.Written.{in_turn, from_start, same_buffer}
 use Rattle.trace_lines.specs.declared.Field.{Field}
 use Rattle.trace_lines.specs.declared.Word.{Word}
 use Rattle.trace_lines.specs.declared.Word.TheVariants.{E, Node, F, Refused, Scan, Associate, Transmit, Poll, Receive, SetChannel, SetAddress, Reset, Discovered, D, DiscoveryFailed, Confirm, SendAnswer, PollAnswer, Negotiated, KeepaliveAnswer, Expired, LeaveIndication, StatusIndication, Nothing, Candidates, RejoinResponse, TimeoutResponse, End, DataFrame, RejoinRequest, TimeoutRequest, Leave, Success, InvalidRequest, NotPermitted, NoNetworks, PanAtCapacity, PanAccessDenied, MacError, Ok, NotJoined, ParentLinkFailure, PolledData, PolledNothing, Undecodable, Bad, Done, LastHeard}
@@ -134,3 +135,6 @@ unfolding line_text
 line-short line =
     let fs = take 20 line in
     omega (arith, length-append (joined (map field_text fs)) (10 ∷ []), joined-long (map field_text fs) (texts-short fs), length-map fs field_text, length-take 20 line)
+
+-- for a line that is written by itself
+pub ruleset by_itself = (from_start, same_buffer, line-short, over-take)

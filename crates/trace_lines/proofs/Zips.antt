@@ -1,22 +1,27 @@
--- Laws of two lists side by side. Assumes nothing.
-use Prim.Native.Nat.{ℕ, zero, suc, ◌+◌, ◌<◌}
+-- Laws of two lists side by side, and of a test that is computed for each element of a list. Assumes nothing.
+use Prim.Native.Nat.{ℕ, zero, suc, ◌+◌, ◌<◌, min}
 use mathlib.Core.Path.{◌≡◌, refl, sym, ap, ◌∙◌}
+use mathlib.Core.Bool.{Bool, true}
 use mathlib.Core.List.{List, [], ◌∷◌, zip_with}
-use native.Mathlib.Nat.{le_of_suc-le-suc, not-suc-le-zero, zero-add}
+use native.Mathlib.Nat.{le_of_suc-le-suc, not-suc-le-zero, zero-add, min-zero, zero-min, suc-min-suc}
 use native.Mathlib.Omega.{arith}
 use lib.ListN.{length, get_or}
+use Rattle.lists.specs.Lists.{every}
 use Rattle.std.specs.List.{zip, enumerate_from}
+use Rattle.std.proofs.lemmas.Bool.{and_parts}
 use Rattle.std.proofs.lemmas.List.FromFn.{length-enumerate_from, get_or-enumerate_from}
 use Rattle.std.proofs.lemmas.Slice.Zip.{length-zip}
 
--- what stands at one place of both, as a loop over them with their places has it
+-- two lists side by side
 module _ {A B C : Type 0} (f : A → B → C) where
-  pub zip-long : (xs : List A) (ys : List B) → length ys ≡ length xs → length (zip_with f xs ys) ≡ length xs
+  -- there are as many as the shorter one has
+  pub zip-long : (xs : List A) (ys : List B) → length (zip_with f xs ys) ≡ min (length xs) (length ys)
   unfolding zip_with
-  zip-long [] ys h = refl
-  zip-long (x ∷ xs) [] h = let e : ⊥ = omega (arith, h) in absurd e
-  zip-long (x ∷ xs) (y ∷ ys) h = ap suc (zip-long xs ys (omega (arith, h)))
+  zip-long [] ys = sym (zero-min (length ys))
+  zip-long (x ∷ xs) [] = sym (min-zero (suc (length xs)))
+  zip-long (x ∷ xs) (y ∷ ys) = ap suc (zip-long xs ys) ∙ sym (suc-min-suc (length xs) (length ys))
 
+  -- what stands at one place of both, as a loop over them with their places has it
   zip-at : (xs : List A) (ys : List B) (i : ℕ) (p : B × A) (c : C) → i < length (zip ys xs) → get_or (zip_with f xs ys) i c ≡ f (get_or (zip ys xs) i p).1 (get_or (zip ys xs) i p).0
   unfolding zip_with
   zip-at [] [] i p c h = absurd (not-suc-le-zero h)
@@ -38,3 +43,9 @@ module _ {A B : Type 0} (xs : List A) (ys : List B) where
 
   pub zip-all : length ys ≡ length xs → length (enumerate_from 0 (zip ys xs)) ≡ length xs
   zip-all h = omega (arith, length-enumerate_from 0 (zip ys xs), length-zip ys xs)
+
+-- a fact that is computed for each element of a list
+pub every-at : (p : List ℕ → Bool) (l : List (List ℕ)) (i : ℕ) → p [] ≡ true → every p l ≡ true → p (get_or l i []) ≡ true
+every-at p [] i z h = z
+every-at p (x ∷ xs) zero z h = (and_parts (p x) (every p xs) h).0
+every-at p (x ∷ xs) (suc i) z h = every-at p xs i z (and_parts (p x) (every p xs) h).1

@@ -2,6 +2,8 @@
 #![tactic(auto)]
 
 ghost use Rattle.std.specs.Prelude.{◌≡◌, ◌++◌, cond, ◌≤◌, length, map};
+ghost use Rattle.std.proofs.lemmas.List.Edits.{sets};
+ghost use Rattle.lists.specs.Lists.{over};
 ghost use Rattle.text.specs.Text.{bytes, fields, same_text, hex_of, hex_text};
 ghost use Rattle.text.specs.Writer.{with_text};
 ghost use Rattle.trace_lines.specs.TraceLines.{word_of, letters_of, greatest, number_of, is_dash, line_of, word_text, or_dash_text, flag_text, field_text, joined, line_text};
@@ -131,6 +133,9 @@ const KINDS: [InputKind; 37] = [
 
 // How many fields a line has at most, its word included.
 const MAX_FIELDS: usize = 20;
+
+// How many bytes a line that is written has at most: 20 fields of 20 bytes, a tab between each two, and the line feed.
+const MAX_LINE_BYTES: usize = 420;
 
 // The greatest length of a lent buffer that a `page` line tells of: the format's bound, over the 816 bytes that a page fills, so that longer buffers come too.
 pub const MAX_PAGE_BYTES: usize = 1024;
@@ -507,4 +512,24 @@ pub fn put_line(out: &mut Writer, line: &[Field])
 {
     write_fields(out, lists::in_use(line, MAX_FIELDS));
     out.write(b"\n");
+}
+
+// Writes a line at the start of bytes that are enough for any, and returns its length.
+#[tactic(auto, using(crate::proofs::Texts::by_itself))]
+fn fill_line(bytes: &mut [u8; MAX_LINE_BYTES], line: &[Field]) -> usize
+    ensures { (result ≡ length (line_text line.now)) × (bytes.new ≡ over bytes.old (line_text line.now)) }
+{
+    let mut out = Writer::new(bytes);
+    put_line(&mut out, line);
+    out.place()
+}
+
+// Writes a line at a place of a buffer, as far as it fits, and returns its length: that of all the line, which `put_line` does not give.
+#[tactic(auto, using(crate::proofs::Texts::by_itself))]
+pub fn write_line(out: &mut [u8], at: u16, line: &[Field]) -> usize
+    ensures { (result ≡ length (line_text line.now)) × (out.new ≡ sets out.old at (line_text line.now)) }
+{
+    let mut bytes = [0; MAX_LINE_BYTES];
+    let length = fill_line(&mut bytes, line);
+    text::write(out, usize::from(at), &bytes[..length])
 }

@@ -77,6 +77,10 @@ module _ (n : ℕ) where
   either : {b : Bool} (x : Bool) {d e : Decision} → OnD n b d → OnD n b e → OnD n b (cond x d e)
   either {b} x p q = by_cases (OnD n b) x (λ _. p) q
 
+  -- what holds before the scan and after it
+  pub anyhow : {b : Bool} {d : Decision} → OnD n false d → OnD n b d
+  anyhow h = record { kept = h.kept; ends = h.ends; calm = λ _. h.calm refl }
+
   after-scan : (b : Bool) {d : Decision} → OnD n true d → b ≡ true → OnD n b d
   after-scan b h t = record { kept = h.kept; ends = h.ends; calm = λ f. never b f t }
 
