@@ -312,6 +312,17 @@ impl Session {
         session.saying(Said::Nothing)
     }
 
+    // A beacon of a scan is heard.
+    #[tactic(auto, unfolding(crate::specs::TraceCalls::call_made))]
+    fn beacon_heard(self, d: PanDescriptor) -> Turn
+        ensures { result ≡ call_made (TraceCall.Beacon d) self }
+    {
+        self.scan_after(
+            self.missing.saturating_sub(1),
+            with_beacon(self.beacons, self.missing, d),
+        )
+    }
+
     // The choice of candidates on the present table.
     fn choice_told(self, network: ExtendedPanId, router: bool, permit: bool) -> Turn
         ensures { result ≡ choice_told network.0 router permit self }
@@ -344,10 +355,7 @@ impl Session {
             TraceCall::Negotiate => self.answered(state.negotiate_end_device_timeout()),
             TraceCall::Keepalive => self.answered(state.send_timeout_request_keepalive()),
             TraceCall::Scan(n) => self.scan_after(n, unheard(n as usize)),
-            TraceCall::Beacon(d) => self.scan_after(
-                self.missing.saturating_sub(1),
-                with_beacon(self.beacons, self.missing, d),
-            ),
+            TraceCall::Beacon(d) => self.beacon_heard(d),
             TraceCall::ScanFailed => self.scan_told(Err(MacError)),
             TraceCall::Association(outcome) => self.answered(state.association_over(outcome)),
             TraceCall::Transmission(sent) => self.answered(state.transmission_over(sent)),
@@ -430,6 +438,8 @@ impl Session {
         ensures { result ≡ turn_taken call self }
     {
         match call {
+            // most lines are beacons, and `make` clears memory for the calls of all others
+            Some(TraceCall::Beacon(d)) if self.missing != 0 => self.beacon_heard(d),
             Some(call) if self.is_in_place(call) => self.make(call),
             _ => self.saying(Said::Bad),
         }
