@@ -438,7 +438,7 @@ impl Session {
         ensures { result ≡ turn_taken call self }
     {
         match call {
-            // most lines are beacons, and `make` clears memory for the calls of all others
+            // a beacon, of which a scan has up to 27, comes first: `make` clears memory for the calls of all other lines
             Some(TraceCall::Beacon(d)) if self.missing != 0 => self.beacon_heard(d),
             Some(call) if self.is_in_place(call) => self.make(call),
             _ => self.saying(Said::Bad),
